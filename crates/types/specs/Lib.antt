@@ -1,0 +1,4 @@
+pub mod Refusals
+pub mod Codes
+pub mod Limits
+pub mod Value
