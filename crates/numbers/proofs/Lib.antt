@@ -1,0 +1,10 @@
+pub mod Read
+pub mod Zig
+pub mod Found
+pub mod Put
+pub mod Fewest
+pub mod Fixed
+pub mod Sixteen
+pub mod Cases
+pub mod Got
+pub mod Table

@@ -1,0 +1,20 @@
+use borrow.Author.Needs.{needs}
+use mir.Syntax.{w16}
+use Rattle.numbers.proofs.Zig.{turned-twice}
+use Rattle.numbers.proofs.signed16.Statement.{statement}
+use Rattle.numbers.proofs.signed16.Tie as tie
+
+cast-result : tie.Need-cast-result
+cast-result c = search needs
+
+cast-result-2 : tie.Need-cast-result-2
+cast-result-2 c = search needs
+
+returns : tie.Need-returns
+returns c = search needs
+
+returns-2 : tie.Need-returns-2
+returns-2 c = search (turned-twice w16)
+
+pub signed16-spec : {M : Type 1} → statement M
+signed16-spec = tie.close (tie.spec cast-result cast-result-2 returns returns-2)

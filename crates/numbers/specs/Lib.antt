@@ -1,0 +1,4 @@
+pub mod Varint
+pub mod Zigzag
+pub mod Fixed
+pub mod Answers

@@ -1,0 +1,297 @@
+// The numbers of the compact protocol: varints of 32 and 64 bits, zigzag, i16, i8, and eight little-endian bytes.
+ghost use mathlib.Core.List.{[], _∷_};
+ghost use mathlib.Core.Path.{_≡_};
+ghost use Prim.Native.Nat.{_+_};
+ghost use mir.Syntax.{w8, w16, w32, w64};
+ghost use mir.Val.{toZ, ofZ};
+ghost use lib.Dec.{ltb};
+ghost use lib.ListN.{length};
+ghost use Rattle.numbers.specs.Varint.{fewest};
+ghost use Rattle.numbers.specs.Zigzag.{zigzag, unzigzag};
+ghost use Rattle.numbers.specs.Fixed.{eight};
+ghost use Rattle.numbers.specs.Answers.{varint32At, varint64At, signed16At, bits64At, wroteAt, putAt};
+
+// A number and the place behind it, or the number of a refusal: END or LONG VARINT.
+pub enum Varint32 {
+    Got(u32, usize),
+    Refused(u8),
+}
+
+pub enum Varint64 {
+    Got(u64, usize),
+    Refused(u8),
+}
+
+pub enum Int16 {
+    Got(i16, usize),
+    Refused(u8),
+}
+
+// The bits of eight bytes and the place behind them, or END.
+pub enum Bits64 {
+    Got(u64, usize),
+    Refused(u8),
+}
+
+// The place behind what was written, or NO ROOM.
+pub enum Wrote {
+    To(usize),
+    Refused(u8),
+}
+
+fn wide32(b: u8) -> u32
+    ensures { λ r. ⌜ r ≡ b ⌝ }
+{
+    b as u32
+}
+
+fn wide64(b: u8) -> u64
+    ensures { λ r. ⌜ r ≡ b ⌝ }
+{
+    b as u64
+}
+
+// A byte's group is shifted to its place; bits past the 32nd are dropped there.
+pub fn read_varint32(s: &[u8], at: usize) -> Varint32
+    ensures { λ r. ⌜ r ≡ varint32At (now (s .entry)) at ⌝ }
+{
+    let mut value: u32 = 0;
+    let mut shift: u32 = 0;
+    let mut left: usize = 5;
+    let mut p = at;
+    while 0 < left {
+        if s.len() <= p {
+            return Varint32::Refused(types::END);
+        }
+        let b = wide32(s[p]);
+        value = std::num::wrapping_add_u32(value, (b % 128) << shift);
+        p = p + 1;
+        if b < 128 {
+            return Varint32::Got(value, p);
+        }
+        shift = shift + 7;
+        left = left - 1;
+    }
+    Varint32::Refused(types::LONG_VARINT)
+}
+
+pub fn read_varint64(s: &[u8], at: usize) -> Varint64
+    ensures { λ r. ⌜ r ≡ varint64At (now (s .entry)) at ⌝ }
+{
+    let mut value: u64 = 0;
+    let mut shift: u64 = 0;
+    let mut left: usize = 10;
+    let mut p = at;
+    while 0 < left {
+        if s.len() <= p {
+            return Varint64::Refused(types::END);
+        }
+        let b = wide64(s[p]);
+        value = std::num::wrapping_add_u64(value, (b % 128) << shift);
+        p = p + 1;
+        if b < 128 {
+            return Varint64::Got(value, p);
+        }
+        shift = shift + 7;
+        left = left - 1;
+    }
+    Varint64::Refused(types::LONG_VARINT)
+}
+
+// The bits, read as a signed number. A cast may lose nothing, so bits with the top one set are turned, cast and turned back.
+pub fn signed8(bits: u8) -> i8
+    ensures { λ r. ⌜ r ≡ toZ w8 bits ⌝ }
+{
+    if bits < 0x80 {
+        bits as i8
+    } else {
+        !((!bits) as i8)
+    }
+}
+
+fn signed16(bits: u16) -> i16
+    ensures { λ r. ⌜ r ≡ toZ w16 bits ⌝ }
+{
+    if bits < 0x8000 {
+        bits as i16
+    } else {
+        !((!bits) as i16)
+    }
+}
+
+pub fn signed32(bits: u32) -> i32
+    ensures { λ r. ⌜ r ≡ toZ w32 bits ⌝ }
+{
+    if bits < 0x8000_0000 {
+        bits as i32
+    } else {
+        !((!bits) as i32)
+    }
+}
+
+fn signed64(bits: u64) -> i64
+    ensures { λ r. ⌜ r ≡ toZ w64 bits ⌝ }
+{
+    if bits < 0x8000_0000_0000_0000 {
+        bits as i64
+    } else {
+        !((!bits) as i64)
+    }
+}
+
+// The bits of a signed number.
+pub fn bits8(n: i8) -> u8
+    ensures { λ r. ⌜ r ≡ ofZ w8 n ⌝ }
+{
+    if 0 <= n { n as u8 } else { !((!n) as u8) }
+}
+
+pub fn bits32(n: i32) -> u32
+    ensures { λ r. ⌜ r ≡ ofZ w32 n ⌝ }
+{
+    if 0 <= n { n as u32 } else { !((!n) as u32) }
+}
+
+// Half of n, with every bit turned where n is odd: the lowest bit is subtracted from zero, wrapping.
+pub fn zigzag_to_i32(n: u32) -> i32
+    ensures { λ r. ⌜ r ≡ unzigzag n ⌝ }
+{
+    signed32((n / 2) ^ std::num::wrapping_sub_u32(0, n % 2))
+}
+
+pub fn zigzag_to_i64(n: u64) -> i64
+    ensures { λ r. ⌜ r ≡ unzigzag n ⌝ }
+{
+    signed64((n / 2) ^ std::num::wrapping_sub_u64(0, n % 2))
+}
+
+pub fn i32_to_zigzag(n: i32) -> u32
+    ensures { λ r. ⌜ r ≡ zigzag n ⌝ }
+{
+    if 0 <= n {
+        (n as u32) * 2
+    } else {
+        ((!n) as u32) * 2 + 1
+    }
+}
+
+pub fn i64_to_zigzag(n: i64) -> u64
+    ensures { λ r. ⌜ r ≡ zigzag n ⌝ }
+{
+    if 0 <= n {
+        (n as u64) * 2
+    } else {
+        ((!n) as u64) * 2 + 1
+    }
+}
+
+// An i16 is read as a 32-bit zigzag number, of which the low 16 bits are kept, signed.
+pub fn read_i16(s: &[u8], at: usize) -> Int16
+    ensures { λ r. ⌜ r ≡ signed16At (now (s .entry)) at ⌝ }
+{
+    match read_varint32(s, at) {
+        Varint32::Got(v, p) => {
+            let bits = bits32(zigzag_to_i32(v));
+            Int16::Got(signed16((bits % 0x1_0000) as u16), p)
+        }
+        Varint32::Refused(no) => Int16::Refused(no),
+    }
+}
+
+// Whether `have` bytes are too few for `need` of them from a place on. The sum of the two could wrap, so it is not taken.
+fn lacks_room(have: usize, at: usize, need: usize) -> bool
+    ensures { λ r. ⌜ r ≡ ltb have (at + need) ⌝ }
+{
+    if have < need {
+        return true;
+    }
+    if have - need < at {
+        return true;
+    }
+    false
+}
+
+// The eight bytes from a place on, the last of them the highest.
+pub fn read_le64(s: &[u8], at: usize) -> Bits64
+    ensures { λ r. ⌜ r ≡ bits64At (now (s .entry)) at ⌝ }
+{
+    if lacks_room(s.len(), at, 8) {
+        return Bits64::Refused(types::END);
+    }
+    let end = at + 8;
+    let mut value: u64 = 0;
+    let mut p = end;
+    while at < p {
+        p = p - 1;
+        let b = wide64(s[p]);
+        value = value * 256 + b;
+    }
+    Bits64::Got(value, end)
+}
+
+// One byte at a place of the buffer. Where a writer finds no room the buffer keeps its bytes.
+pub fn write_byte(buf: &mut [u8], at: usize, b: u8) -> Wrote
+    ensures { λ r. ⌜ (r ≡ wroteAt (now (buf .entry)) at (b ∷ [])) × (now (buf .exit) ≡ putAt (now (buf .entry)) at (b ∷ [])) ⌝ }
+{
+    if lacks_room(buf.len(), at, 1) {
+        return Wrote::Refused(types::NO_ROOM);
+    }
+    buf[at] = b;
+    Wrote::To(at + 1)
+}
+
+// How many bytes the number takes.
+pub fn varint_len(n: u64) -> usize
+    ensures { λ r. ⌜ r ≡ length (fewest n) ⌝ }
+{
+    let mut rest = n;
+    let mut len: usize = 1;
+    while 128 <= rest {
+        rest = rest / 128;
+        len = len + 1;
+    }
+    len
+}
+
+// The number in the fewest bytes.
+pub fn write_varint64(buf: &mut [u8], at: usize, n: u64) -> Wrote
+    ensures { λ r. ⌜ (r ≡ wroteAt (now (buf .entry)) at (fewest n)) × (now (buf .exit) ≡ putAt (now (buf .entry)) at (fewest n)) ⌝ }
+{
+    let len = varint_len(n);
+    if lacks_room(buf.len(), at, len) {
+        return Wrote::Refused(types::NO_ROOM);
+    }
+    let mut rest = n;
+    let mut p = at;
+    while 128 <= rest {
+        buf[p] = (rest % 128 + 128) as u8;
+        rest = rest / 128;
+        p = p + 1;
+    }
+    buf[p] = rest as u8;
+    Wrote::To(p + 1)
+}
+
+pub fn write_varint32(buf: &mut [u8], at: usize, n: u32) -> Wrote
+    ensures { λ r. ⌜ (r ≡ wroteAt (now (buf .entry)) at (fewest n)) × (now (buf .exit) ≡ putAt (now (buf .entry)) at (fewest n)) ⌝ }
+{
+    write_varint64(buf, at, n as u64)
+}
+
+// The eight bytes of the bits, lowest first.
+pub fn write_le64(buf: &mut [u8], at: usize, n: u64) -> Wrote
+    ensures { λ r. ⌜ (r ≡ wroteAt (now (buf .entry)) at (eight n)) × (now (buf .exit) ≡ putAt (now (buf .entry)) at (eight n)) ⌝ }
+{
+    if lacks_room(buf.len(), at, 8) {
+        return Wrote::Refused(types::NO_ROOM);
+    }
+    let end = at + 8;
+    let mut rest = n;
+    let mut p = at;
+    while p < end {
+        buf[p] = (rest % 256) as u8;
+        rest = rest / 256;
+        p = p + 1;
+    }
+    Wrote::To(p)
+}

@@ -1,0 +1,5 @@
+pub mod Laws
+pub mod Cases
+pub mod Rows
+pub mod Steps
+pub mod Samples
