@@ -1,0 +1,5 @@
+pub mod Lawful
+pub mod Steps
+pub mod Cases
+pub mod Ids
+pub mod Readers

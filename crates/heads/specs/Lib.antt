@@ -1,0 +1,4 @@
+pub mod Reader
+pub mod Heads
+pub mod Answers
+pub mod Spells

@@ -1,0 +1,344 @@
+-- The laws of every call, shown once: a refused call hands back the state as given; the bytes behind what was read have no say; the next
+-- place lies in the input, not before the last; a sound state stays sound; BAD STATE and OUT OF TURN are given exactly when the scope paper says. Assumes nothing.
+use mathlib.Core.Path.{_≡_, refl, sym, ap, _∙_}
+use mathlib.Core.List.{List}
+use mathlib.Core.Bool.{Bool, true, false, cond, _||_}
+use Prim.Native.Nat.{ℕ, _≤_, _<_}
+use native.Mathlib.Omega.{arith}
+use borrow.Author.Tests.{eq-eqb, ne-eqb, leb-false}
+use lib.Dec.{leb, eqb}
+use lib.ListN.{length, take, drop, length-drop}
+use Rattle.types.specs.Refusals.{DEPTH, OUT-OF-TURN, BAD-STATE}
+use Rattle.types.specs.Limits.{inRange}
+use Rattle.types.specs.declared.TConfiguration.{TConfiguration}
+use Rattle.numbers.specs.Varint.{Found, got, refused, placed}
+use Rattle.numbers.proofs.Found.{as-long, same-part}
+use Rattle.heads.specs.Reader.{Reader, readAt}
+use Rattle.heads.specs.Heads.{truth}
+use Rattle.heads.specs.Answers.{place}
+use Rattle.heads.proofs.Lawful.{Lawful, same}
+use Rattle.heads.proofs.Steps.{found-at, lost-at}
+use Rattle.heads.proofs.Readers.{truth-lawful}
+use Rattle.input.specs.State.{State, sound, waits, gate, movedTo, withPending, entered, left}
+use Rattle.input.specs.Outcome.{Said, says, refuses, Outcome, answers, declines, guarded, from, calls, stays, element, bools, begins, ends}
+use Rattle.input.specs.declared.Awaited.{Awaited}
+use Rattle.input.specs.declared.Awaited.the-variants as W
+use Rattle.input.proofs.Gate.{Sound, is-sound, sound-is, Gated, bad, turn, through, gated}
+use Rattle.input.proofs.Refusals.{Shown, Told, truth-told}
+
+not-true : {X : Type 0} {b : Bool} → b ≡ false → b ≡ true → X
+not-true f g = let z : _≡_ {A = Bool} false true = sym f ∙ g in let o : _≡_ {A = ℕ} 0 1 = cc in absurd (omega arith)
+
+-- what is promised of a call; `late` says which states it is out of turn in
+pub record CallLaws {R : Type 0} (call : List ℕ → State → R) (number : R → ℕ) (state : R → State) (late : State → Bool) : Type 0 where
+  -- "A refusal returns its number and the state as given"
+  pub kept : (s : List ℕ) (st : State) → (number (call s st) ≡ 0 → ⊥) → state (call s st) ≡ st
+  -- "two inputs that agree up to its end give .. every read the same answer"
+  pub behind : (s t : List ℕ) (st : State) → number (call s st) ≡ 0 → take (state (call s st) .place .0) t ≡ take (state (call s st) .place .0) s → call t st ≡ call s st
+  -- what was read lies in the input
+  pub onward : (s : List ℕ) (st : State) → number (call s st) ≡ 0 → st .place .0 ≤ state (call s st) .place .0
+  pub inside : (s : List ℕ) (st : State) → number (call s st) ≡ 0 → state (call s st) .place .0 ≤ length s
+  -- a sound state stays sound, whatever the call answers
+  pub still-sound : (s : List ℕ) (st : State) → sound (length s) st ≡ true → sound (length s) (state (call s st)) ≡ true
+  -- "BAD STATE": given exactly when the state is not sound
+  pub bad-state : (s : List ℕ) (st : State) → number (call s st) ≡ BAD-STATE → sound (length s) st ≡ false
+  pub state-bad : (s : List ℕ) (st : State) → sound (length s) st ≡ false → number (call s st) ≡ BAD-STATE
+  -- "OUT OF TURN": given exactly when the state is sound and the call not its turn
+  pub out-of-turn : (s : List ℕ) (st : State) → number (call s st) ≡ OUT-OF-TURN → (sound (length s) st ≡ true) × (late st ≡ true)
+  pub turn-out : (s : List ℕ) (st : State) → sound (length s) st ≡ true → late st ≡ true → number (call s st) ≡ OUT-OF-TURN
+
+-- the ways that a call may go
+pub data Way {A : Type 0} (call : List ℕ → State → Outcome A) (late : State → Bool) (s : List ℕ) (st : State) : Type 0 where
+  unsound : sound (length s) st ≡ false → call s st ≡ declines BAD-STATE st → Way call late s st
+  early : sound (length s) st ≡ true → late st ≡ true → call s st ≡ declines OUT-OF-TURN st → Way call late s st
+  lost : sound (length s) st ≡ true → late st ≡ false → (why : ℕ) → Shown why → call s st ≡ declines why st → Way call late s st
+  well : sound (length s) st ≡ true → late st ≡ false → (a : A) (next : State) → st .place .0 ≤ next .place .0 → sound (length s) next ≡ true → ((t : List ℕ) → take (next .place .0) t ≡ take (next .place .0) s → call t st ≡ answers a next) → Way call late s st
+
+abbrev pub numberOf : {A : Type 0} → Said A → ℕ
+numberOf (says a) = 0
+numberOf (refuses why) = why
+
+-- each way keeps the promises, in the words `out` of any declared answer
+module _ {A R : Type 0} (call : List ℕ → State → Outcome A) (late : State → Bool) (ways : (s : List ℕ) (st : State) → Way call late s st) (out : Outcome A → R) (number : R → ℕ) (state : R → State) (fit : (o : Outcome A) → number (out o) ≡ numberOf (o .said)) (same-state : (o : Outcome A) → state (out o) ≡ o .state) where
+  num : (s : List ℕ) (st : State) (o : Outcome A) → call s st ≡ o → number (out (call s st)) ≡ numberOf (o .said)
+  num s st o e = fit (call s st) ∙ ap (λ (x : Outcome A). numberOf (x .said)) e
+
+  next-is : (s : List ℕ) (st : State) (o : Outcome A) → call s st ≡ o → state (out (call s st)) ≡ o .state
+  next-is s st o e = same-state (call s st) ∙ ap (λ (x : Outcome A). x .state) e
+
+  module _ (s : List ℕ) (st : State) where
+    law-kept : (number (out (call s st)) ≡ 0 → ⊥) → state (out (call s st)) ≡ st
+    law-kept h = go (ways s st)
+      where
+        go : Way call late s st → state (out (call s st)) ≡ st
+        go (unsound f e) = next-is s st _ e
+        go (early f l e) = next-is s st _ e
+        go (lost f l why w e) = next-is s st _ e
+        go (well f l a next lo hi b) = absurd (h (num s st _ (b s refl)))
+
+    -- an answer comes from a call that went well
+    answered : {X : Type 0} → number (out (call s st)) ≡ 0 → ((a : A) (next : State) → st .place .0 ≤ next .place .0 → sound (length s) next ≡ true → ((t : List ℕ) → take (next .place .0) t ≡ take (next .place .0) s → call t st ≡ answers a next) → X) → X
+    answered {X} z k = go (ways s st)
+      where
+        go : Way call late s st → X
+        go (unsound f e) = let n = num s st _ e in absurd (omega arith)
+        go (early f l e) = let n = num s st _ e in absurd (omega arith)
+        go (lost f l why w e) = let n = num s st _ e in absurd (omega (arith, w .some))
+        go (well f l a next lo hi b) = k a next lo hi b
+
+    law-behind : (t : List ℕ) → number (out (call s st)) ≡ 0 → take (state (out (call s st)) .place .0) t ≡ take (state (out (call s st)) .place .0) s → out (call t st) ≡ out (call s st)
+    law-behind t z g =
+        answered z
+        (λ a next lo hi b.
+        let e : state (out (call s st)) ≡ next = next-is s st _ (b s refl) in
+        ap out (b t (rw e at g) ∙ sym (b s refl)))
+
+    law-onward : number (out (call s st)) ≡ 0 → st .place .0 ≤ state (out (call s st)) .place .0
+    law-onward z = answered z (λ a next lo hi b. let e : state (out (call s st)) ≡ next = next-is s st _ (b s refl) in rw e lo)
+
+    law-inside : number (out (call s st)) ≡ 0 → state (out (call s st)) .place .0 ≤ length s
+    law-inside z = answered z (λ a next lo hi b. let e : state (out (call s st)) ≡ next = next-is s st _ (b s refl) in rw e (is-sound (length s) next hi .here))
+
+    law-sound : sound (length s) st ≡ true → sound (length s) (state (out (call s st))) ≡ true
+    law-sound g = go (ways s st)
+      where
+        after : (o : Outcome A) → call s st ≡ o → sound (length s) (o .state) ≡ true → sound (length s) (state (out (call s st))) ≡ true
+        after o e h = ap (sound (length s)) (next-is s st o e) ∙ h
+
+        go : Way call late s st → sound (length s) (state (out (call s st))) ≡ true
+        go (unsound f e) = after _ e g
+        go (early f l e) = after _ e g
+        go (lost f l why w e) = after _ e g
+        go (well f l a next lo hi b) = after _ (b s refl) hi
+
+    law-bad : number (out (call s st)) ≡ BAD-STATE → sound (length s) st ≡ false
+    law-bad z = go (ways s st)
+      where
+        go : Way call late s st → sound (length s) st ≡ false
+        go (unsound f e) = f
+        go (early f l e) = let n = num s st _ e in absurd (omega arith)
+        go (lost f l why w e) = let n = num s st _ e in absurd (omega (arith, w .below))
+        go (well f l a next lo hi b) = let n = num s st _ (b s refl) in absurd (omega arith)
+
+    law-bad-back : sound (length s) st ≡ false → number (out (call s st)) ≡ BAD-STATE
+    law-bad-back z = go (ways s st)
+      where
+        go : Way call late s st → number (out (call s st)) ≡ BAD-STATE
+        go (unsound f e) = num s st _ e
+        go (early f l e) = not-true z f
+        go (lost f l why w e) = not-true z f
+        go (well f l a next lo hi b) = not-true z f
+
+    law-turn : number (out (call s st)) ≡ OUT-OF-TURN → (sound (length s) st ≡ true) × (late st ≡ true)
+    law-turn z = go (ways s st)
+      where
+        go : Way call late s st → (sound (length s) st ≡ true) × (late st ≡ true)
+        go (unsound f e) = let n = num s st _ e in absurd (omega arith)
+        go (early f l e) = (f, l)
+        go (lost f l why w e) = let n = num s st _ e in absurd (omega (arith, w .below))
+        go (well f l a next lo hi b) = let n = num s st _ (b s refl) in absurd (omega arith)
+
+    law-turn-back : sound (length s) st ≡ true → late st ≡ true → number (out (call s st)) ≡ OUT-OF-TURN
+    law-turn-back g z = go (ways s st)
+      where
+        go : Way call late s st → number (out (call s st)) ≡ OUT-OF-TURN
+        go (unsound f e) = not-true f g
+        go (early f l e) = num s st _ e
+        go (lost f l why w e) = not-true l z
+        go (well f l a next lo hi b) = not-true l z
+
+  pub laws : CallLaws (λ s st. out (call s st)) number state late
+  laws =
+      record {
+        kept = law-kept;
+        behind = λ s t st. law-behind s st t;
+        onward = law-onward;
+        inside = law-inside;
+        still-sound = law-sound;
+        bad-state = law-bad;
+        state-bad = law-bad-back;
+        out-of-turn = law-turn;
+        turn-out = law-turn-back;
+      }
+
+-- an input that agrees with a state's up to a place behind its own is one that the state is sound for
+agree : (s t : List ℕ) (st : State) (e : ℕ) → sound (length s) st ≡ true → st .place .0 ≤ e → e ≤ length s → take e t ≡ take e s → sound (length t) st ≡ true
+agree s t st e f lo hi g =
+    let q = is-sound (length s) st f in
+    sound-is (length t) st (record { limits = q .limits; here = omega (arith, as-long e s t hi g); deep = q .deep })
+
+-- a bool is pending: the states that a call other than the bool call is out of turn in
+abbrev pub busy : State → Bool
+busy st = waits (st .pending .0)
+
+pub gate-free : (len : ℕ) (st : State) → sound len st ≡ true → busy st ≡ false → gate len st ≡ 0
+unfolding gate
+gate-free len st f w = rw (f, w)
+
+-- a call that begins at the gate, by what it does behind it
+module _ {A : Type 0} (behind : List ℕ → State → Outcome A) where
+  abbrev gatedly : List ℕ → State → Outcome A
+  gatedly s st = guarded s st (behind s st)
+
+  past-gate : (s : List ℕ) (st : State) → gate (length s) st ≡ 0 → gatedly s st ≡ behind s st
+  past-gate s st g = rw (eq-eqb (gate (length s) st) 0 g)
+
+  at-gate : (s : List ℕ) (st : State) (n : ℕ) → gate (length s) st ≡ n → 0 < n → gatedly s st ≡ declines n st
+  at-gate s st n g h = rw (g, ne-eqb n 0 (λ z. omega arith))
+
+-- a state that is sound stays so at another place of the input, with the same limits and depth
+sound-at : (len : ℕ) (st next : State) → sound len st ≡ true → next .limits ≡ st .limits → next .depth ≡ st .depth → next .place .0 ≤ len → sound len next ≡ true
+sound-at len st next f l d h =
+    let q = is-sound len st f in
+    let e : next .limits .depth ≡ st .limits .depth = ap (λ (x : TConfiguration). x .depth) l in
+    sound-is len next (record { limits = ap inRange l ∙ q .limits; here = h; deep = omega (arith, q .deep) })
+
+-- what a move leaves: limits and depth
+pub record Keeps {A : Type 0} (move : State → A → State) : Type 0 where
+  pub limits : (st : State) (a : A) → move st a .limits ≡ st .limits
+  pub depth : (st : State) (a : A) → move st a .depth ≡ st .depth
+
+-- what a reader finds at a state's place, for a call that comes to its reader
+module _ {A : Type 0} (call : List ℕ → State → Outcome A) (late : State → Bool) (move : State → A → State) (keeps : Keeps move) (s : List ℕ) (st : State) (p : Reader A) (lawful : Lawful p) (told : Told p) (f : sound (length s) st ≡ true) (l : late st ≡ false) (passed : (t : List ℕ) → sound (length t) st ≡ true → call t st ≡ from move st (readAt p t (st .place .0))) where
+  found : (x : Found A) → readAt p s (st .place .0) ≡ x → Way call late s st
+  unfolding readAt
+  found (refused why) e = lost f l why (told (drop (st .place .0) s) why (lost-at (st .place .0) _ why e)) (passed s f ∙ ap (from move st) e)
+  found (got a e) r =
+      let at = st .place .0 in
+      let q = is-sound (length s) st f in
+      let g = found-at at (p (drop at s)) a e r in
+      let n = g .0 in
+      let lo : at ≤ e = omega (arith, g .2) in
+      let hi : e ≤ length s = omega (arith, q .here, g .2, lawful .ends (drop at s) a n (g .1), length-drop at s) in
+      well f l a (movedTo (move st a) (place e)) lo (sound-at (length s) st (movedTo (move st a) (place e)) f (keeps .limits st a) (keeps .depth st a) hi)
+      (λ t h.
+      let again : p (drop at t) ≡ got a n = same p lawful (drop at s) (drop at t) a n (g .1) (same-part at n e s t (g .2) h) in
+      passed t (agree s t st e f lo hi h) ∙ ap (from move st) (ap (placed at) again ∙ ap (got a) (g .2)))
+
+-- behind the gate
+abbrev reading : {A : Type 0} → (State → Reader A) → (State → A → State) → List ℕ → State → Outcome A
+reading p move s st = from move st (readAt (p st) s (st .place .0))
+
+-- a call that reads
+module _ {A : Type 0} (p : State → Reader A) (move : State → A → State) (keeps : Keeps move) (lawful : (st : State) → Lawful (p st)) (told : (st : State) → Told (p st)) where
+  pub reads : (s : List ℕ) (st : State) → Way (calls p move) busy s st
+  unfolding calls
+  reads s st = go (gated (length s) st)
+    where
+      go : Gated (length s) st → Way (calls p move) busy s st
+      go (bad f g) = unsound f (at-gate (reading p move) s st BAD-STATE g (omega arith))
+      go (turn f w g) = early f w (at-gate (reading p move) s st OUT-OF-TURN g (omega arith))
+      go (through f w g) =
+          found (calls p move) busy move keeps s st (p st) (lawful st) (told st) f w
+          (λ t h. past-gate (reading p move) t st (gate-free (length t) st h w))
+          (readAt (p st) s (st .place .0))
+          refl
+
+pub stays-keeps : {A : Type 0} → Keeps (stays {A = A})
+stays-keeps = record { limits = λ st a. refl; depth = λ st a. refl }
+
+-- what a call that reads answers, in full: from what stands at the state's place, and back
+module _ {A : Type 0} (p : State → Reader A) (move : State → A → State) (s : List ℕ) (st : State) where
+  pub read-well : sound (length s) st ≡ true → busy st ≡ false → (a : A) (e : ℕ) → readAt (p st) s (st .place .0) ≡ got a e → calls p move s st ≡ answers a (movedTo (move st a) (place e))
+  unfolding calls
+  read-well f w a e r = past-gate (reading p move) s st (gate-free (length s) st f w) ∙ ap (from move st) r
+
+  pub record Landed : Type 0 where
+    pub is-sound : sound (length s) st ≡ true
+    pub free : busy st ≡ false
+    pub value : A
+    pub end : ℕ
+    pub stood : readAt (p st) s (st .place .0) ≡ got value end
+    pub is : calls p move s st ≡ answers value (movedTo (move st value) (place end))
+
+  pub landed : Told (p st) → numberOf (calls p move s st .said) ≡ 0 → Landed
+  unfolding calls readAt
+  landed told z = go (gated (length s) st)
+    where
+      told-no : (o : Outcome A) → calls p move s st ≡ o → 0 < numberOf (o .said) → Landed
+      told-no o e h = let n : numberOf (calls p move s st .said) ≡ numberOf (o .said) = ap (λ (x : Outcome A). numberOf (x .said)) e in absurd (omega arith)
+
+      stands : sound (length s) st ≡ true → busy st ≡ false → (x : Found A) → readAt (p st) s (st .place .0) ≡ x → Landed
+      stands f w (got a e) r = record { is-sound = f; free = w; value = a; end = e; stood = r; is = read-well f w a e r }
+      stands f w (refused why) r =
+          told-no (declines why st) (past-gate (reading p move) s st (gate-free (length s) st f w) ∙ ap (from move st) r) (told (drop (st .place .0) s) why (lost-at (st .place .0) _ why r) .some)
+
+      go : Gated (length s) st → Landed
+      go (bad f g) = told-no (declines BAD-STATE st) (at-gate (reading p move) s st BAD-STATE g (omega arith)) (omega arith)
+      go (turn f w g) = told-no (declines OUT-OF-TURN st) (at-gate (reading p move) s st OUT-OF-TURN g (omega arith)) (omega arith)
+      go (through f w g) = stands f w (readAt (p st) s (st .place .0)) refl
+
+-- the bool call is never out of turn
+abbrev pub never : State → Bool
+never st = false
+
+pub bool-ways : (s : List ℕ) (st : State) → Way bools never s st
+unfolding bools element
+bool-ways s st = go (sound (length s) st) refl (st .pending .0) refl
+  where
+    go : (b : Bool) → sound (length s) st ≡ b → (w : Awaited) → st .pending .0 ≡ w → Way bools never s st
+    go false f w g = unsound f (rw f)
+    go true f W.Nothing g =
+        found bools never stays stays-keeps s st truth truth-lawful truth-told f refl (λ t h. rw (h, g)) (readAt truth s (st .place .0)) refl
+    go true f (W.Truth b) g =
+        let q = is-sound (length s) st f in
+        well f refl b (withPending st W.Nothing) (omega arith) (sound-at (length s) st (withPending st W.Nothing) f refl refl (q .here))
+        (λ t h. let k = agree s t st (st .place .0) f (omega arith) (q .here) h in rw (k, g))
+
+-- a call that reads no byte: it stays where it is
+module _ (behind : State → Outcome (Unit {0})) (late : State → Bool) (s : List ℕ) (st : State) (f : sound (length s) st ≡ true) (w : busy st ≡ false) where
+  abbrev resting : List ℕ → State → Outcome (Unit {0})
+  resting s st = behind st
+
+  rests : late st ≡ false → (next : State) → behind st ≡ answers tt next → next .place .0 ≡ st .place .0 → sound (length s) next ≡ true → Way (gatedly resting) late s st
+  rests l next e z g =
+      let q = is-sound (length s) st f in
+      well f l tt next (omega arith) g
+      (λ t h.
+      let k : sound (length t) st ≡ true = agree s t st (st .place .0) f (omega arith) (q .here) (rw z at h) in
+      past-gate resting t st (gate-free (length t) st k w) ∙ e)
+
+  rests-no : late st ≡ false → (why : ℕ) → Shown why → behind st ≡ declines why st → Way (gatedly resting) late s st
+  rests-no l why h e = lost f l why h (past-gate resting s st (gate-free (length s) st f w) ∙ e)
+
+abbrev entering : State → Outcome (Unit {0})
+entering st = cond (leb (st .limits .depth) (st .depth)) (declines DEPTH st) (answers tt (entered st))
+
+pub begin-ways : (s : List ℕ) (st : State) → Way begins busy s st
+unfolding begins
+begin-ways s st = go (gated (length s) st)
+  where
+    inner : Sound (length s) st → st .depth < st .limits .depth → sound (length s) (entered st) ≡ true
+    inner q d = sound-is (length s) (entered st) (record { limits = q .limits; here = q .here; deep = omega arith })
+
+    deep : sound (length s) st ≡ true → busy st ≡ false → (b : Bool) → leb (st .limits .depth) (st .depth) ≡ b → Way begins busy s st
+    deep f w true d = rests-no entering busy s st f w w DEPTH (record { some = omega arith; below = omega arith }) (rw d)
+    deep f w false d = rests entering busy s st f w w (entered st) (rw d) refl (inner (is-sound (length s) st f) (leb-false _ _ d))
+
+    go : Gated (length s) st → Way begins busy s st
+    go (bad f g) = unsound f (at-gate (λ s st. entering st) s st BAD-STATE g (omega arith))
+    go (turn f w g) = early f w (at-gate (λ s st. entering st) s st OUT-OF-TURN g (omega arith))
+    go (through f w g) = deep f w (leb (st .limits .depth) (st .depth)) refl
+
+abbrev leaving : State → Outcome (Unit {0})
+leaving st = cond (eqb (st .depth) 0) (declines OUT-OF-TURN st) (answers tt (left st))
+
+-- "or a struct is ended at depth 0"
+abbrev pub busyOrOut : State → Bool
+busyOrOut st = busy st || eqb (st .depth) 0
+
+pub end-ways : (s : List ℕ) (st : State) → Way ends busyOrOut s st
+unfolding ends
+end-ways s st = go (gated (length s) st)
+  where
+    outer : Sound (length s) st → sound (length s) (left st) ≡ true
+    outer q = sound-is (length s) (left st) (record { limits = q .limits; here = q .here; deep = omega (arith, q .deep) })
+
+    out : sound (length s) st ≡ true → busy st ≡ false → (b : Bool) → eqb (st .depth) 0 ≡ b → Way ends busyOrOut s st
+    out f w true d = early f (rw (w, d)) (past-gate (λ s st. leaving st) s st (gate-free (length s) st f w) ∙ rw d)
+    out f w false d = rests leaving busyOrOut s st f w (rw (w, d)) (left st) (rw d) refl (outer (is-sound (length s) st f))
+
+    go : Gated (length s) st → Way ends busyOrOut s st
+    go (bad f g) = unsound f (at-gate (λ s st. leaving st) s st BAD-STATE g (omega arith))
+    go (turn f w g) = early f (rw w) (at-gate (λ s st. leaving st) s st OUT-OF-TURN g (omega arith))
+    go (through f w g) = out f w (eqb (st .depth) 0) refl

@@ -1,0 +1,276 @@
+-- The refusals of the readers of scalars and headers: each has a number from 1 to 11, so that none reads as an answer, as BAD STATE or as
+-- OUT OF TURN. Assumes nothing.
+use mathlib.Core.Path.{_≡_, refl, sym, ap, _∙_}
+use mathlib.Core.Bool.{Bool, true, false, cond}
+use mathlib.Core.List.{List, [], _∷_}
+use mathlib.Core.Logic.{⊎-elim}
+use Prim.Native.Nat.{ℕ, zero, suc, _/_, _%_, _<_}
+use native.Mathlib.Omega.{arith}
+use lib.Dec.{eqb, leb, ltb}
+use lib.IntN.{ℤ, pos, _+ℤ_}
+use lib.Signed.{ltZ}
+use lib.ListN.{length, getD, drop}
+use Rattle.types.specs.Refusals.{END, LONG-VARINT, BAD-TYPE, BAD-MESSAGE-TYPE, OUT-OF-TURN}
+use Rattle.types.specs.Codes.{numbered, typeByNumber, elementType, asField, fieldType, messages, messageByNumber}
+use Rattle.types.specs.declared.TType.{TType}
+use Rattle.types.specs.declared.TType.the-variants as T
+use Rattle.types.specs.declared.TypeRead.{TypeRead}
+use Rattle.types.specs.declared.TypeRead.the-variants as R
+use Rattle.types.specs.declared.FieldType.{FieldType}
+use Rattle.types.specs.declared.FieldType.the-variants as FT
+use Rattle.types.specs.declared.TMessageType.{TMessageType}
+use Rattle.types.specs.declared.MessageTypeRead.{MessageTypeRead}
+use Rattle.types.specs.declared.MessageTypeRead.the-variants as MR
+use Rattle.types.specs.declared.TConfiguration.{TConfiguration}
+use Rattle.numbers.specs.Varint.{Found, got, refused, groups, keep, varint}
+use Rattle.numbers.specs.Answers.{signed16}
+use Rattle.numbers.proofs.Found.{which}
+use Rattle.heads.specs.Reader.{Reader, done, refuse, andThen, provided, byte, some}
+use Rattle.heads.specs.Heads.{int8, number32, number64, int16, int32, int64, double, uuid, truth, binary, text, typed, counted, listed, items, mapped, pairs, fieldId, ofType, field, messageTyped, named, versioned, message}
+use Rattle.heads.proofs.Lawful.{not-both}
+use Rattle.heads.proofs.Steps.{lost-at}
+
+-- a refusal of what the input shows
+pub record Shown (why : ℕ) : Type 0 where
+  pub some : 0 < why
+  pub below : why < OUT-OF-TURN
+
+abbrev pub Told : {A : Type 0} → Reader A → Type 0
+Told {A} p = (bs : List ℕ) (why : ℕ) → p bs ≡ refused why → Shown why
+
+as-shown : {A : Type 0} (w why : ℕ) → Shown w → _≡_ {A = Found A} (refused w) (refused why) → Shown why
+as-shown w why h e = let z : w ≡ why = cc in record { some = omega arith; below = omega arith }
+
+pub done-told : {A : Type 0} (a : A) → Told (done a)
+unfolding done
+done-told a bs why e = not-both (sym e)
+
+pub refuse-told : {A : Type 0} (w : ℕ) → Shown w → Told (refuse {A = A} w)
+unfolding refuse
+refuse-told {A} w h bs why e = as-shown {A = A} w why h e
+
+pub then-told : {A B : Type 0} (p : Reader A) (k : A → Reader B) → Told p → ((a : A) → Told (k a)) → Told (andThen p k)
+unfolding andThen
+then-told {A} {B} p k hp hk bs why e = go (p bs) refl
+  where
+    go : (x : Found A) → p bs ≡ x → Shown why
+    go (got a n) f = hk a (drop n bs) why (lost-at n (k a (drop n bs)) why (rw f at e))
+    go (refused u) f =
+        let g : _≡_ {A = Found B} (refused u) (refused why) = rw f at e in
+        let z : u ≡ why = cc in
+        hp bs why (f ∙ ap refused z)
+
+pub cond-told : {A : Type 0} (t : Bool) (p q : Reader A) → Told p → Told q → Told (cond t p q)
+cond-told true p q hp hq = hp
+cond-told false p q hp hq = hq
+
+pub provided-told : {A : Type 0} (ok : Bool) (w : ℕ) (p : Reader A) → Shown w → Told p → Told (provided ok w p)
+unfolding provided
+provided-told {A} true w p h hp bs why e = hp bs why e
+provided-told {A} false w p h hp bs why e = as-shown {A = A} w why h e
+
+byte-told : Told byte
+unfolding byte
+byte-told [] why e = as-shown {A = ℕ} END why (record { some = omega arith; below = omega arith }) e
+byte-told (b ∷ bs) why e = not-both (sym e)
+
+some-told : (n : ℕ) → Told (some n)
+unfolding some
+some-told n bs why e = go (leb n (length bs)) refl
+  where
+    go : (t : Bool) → leb n (length bs) ≡ t → Shown why
+    go true f = not-both (sym (rw f at e))
+    go false f = as-shown {A = List ℕ} END why (record { some = omega arith; below = omega arith }) (rw f at e)
+
+-- varints
+whole : (w : ℕ) (x : Found ℕ) (why : ℕ) → keep w x ≡ refused why → x ≡ refused why
+whole w (got v n) why e = not-both (sym e)
+whole w (refused u) why e = e
+
+varint-told : (w k : ℕ) → Told (varint w k)
+varint-told w k bs why e =
+    ⊎-elim
+    (λ (z : why ≡ END). record { some = omega arith; below = omega arith })
+    (λ (z : why ≡ LONG-VARINT). record { some = omega arith; below = omega arith })
+    (which k bs why (whole w (groups k bs) why e))
+
+number32-told : Told number32
+unfolding number32
+number32-told = varint-told 32 5
+
+number64-told : Told number64
+unfolding number64
+number64-told = varint-told 64 10
+
+-- a table's rows: where each is well, so is what is looked up
+abbrev All : {X : Type 0} → (X → Type 0) → List X → Type 0
+All P [] = Unit {0}
+All P (x ∷ l) = P x × All P l
+
+looked-up : {X : Type 0} (P : X → Type 0) (d : X) → P d → (l : List X) → All P l → (n : ℕ) → P (getD l n d)
+looked-up P d h [] a n = h
+looked-up P d h (x ∷ l) a zero = a .0
+looked-up P d h (x ∷ l) a (suc n) = looked-up P d h l (a .1) n
+
+shown4 : Shown BAD-TYPE
+shown4 = record { some = omega arith; below = omega arith }
+
+shown3 : Shown BAD-MESSAGE-TYPE
+shown3 = record { some = omega arith; below = omega arith }
+
+abbrev Typed : TypeRead → Type 0
+Typed (R.Got t) = Unit {0}
+Typed (R.Refused w) = Shown w
+
+by-number : (n : ℕ) → Typed (typeByNumber n)
+unfolding typeByNumber
+by-number n = looked-up Typed (R.Refused BAD-TYPE) shown4 numbered (tt, (tt, (shown4, (tt, (tt, (tt, (tt, (tt, (tt, (tt, (tt, (tt, (tt, (tt, tt)))))))))))))) n
+
+element-typed : (n : ℕ) → Typed (elementType n)
+unfolding elementType
+element-typed n = go (eqb n 2)
+  where
+    go : (b : Bool) → Typed (cond b (R.Got T.Bool) (typeByNumber n))
+    go true = tt
+    go false = by-number n
+
+typed-told : (r : TypeRead) → Typed r → Told (typed r)
+typed-told (R.Got t) h = done-told t
+typed-told (R.Refused w) h = refuse-told w h
+
+abbrev Kind : FieldType → Type 0
+Kind FT.Stop = Unit {0}
+Kind (FT.Truth b) = Unit {0}
+Kind (FT.Kind t) = Unit {0}
+Kind (FT.Refused w) = Shown w
+
+as-field : (r : TypeRead) → Typed r → Kind (asField r)
+as-field (R.Got t) h = tt
+as-field (R.Refused w) h = h
+
+field-kind : (n : ℕ) → Kind (fieldType n)
+unfolding fieldType
+field-kind n = go (eqb n 0) (eqb n 1) (eqb n 2)
+  where
+    go : (a b c : Bool) → Kind (cond a FT.Stop (cond b (FT.Truth true) (cond c (FT.Truth false) (asField (typeByNumber n)))))
+    go true b c = tt
+    go false true c = tt
+    go false false true = tt
+    go false false false = as-field (typeByNumber n) (by-number n)
+
+abbrev Called : MessageTypeRead → Type 0
+Called (MR.Got m) = Unit {0}
+Called (MR.Refused w) = Shown w
+
+message-called : (n : ℕ) → Called (messageByNumber n)
+unfolding messageByNumber
+message-called n = looked-up Called (MR.Refused BAD-MESSAGE-TYPE) shown3 messages (shown3, (tt, (tt, (tt, (tt, tt))))) n
+
+called-told : (r : MessageTypeRead) → Called r → Told (messageTyped r)
+called-told (MR.Got m) h = done-told m
+called-told (MR.Refused w) h = refuse-told w h
+
+-- scalars
+pub int8-told : Told int8
+unfolding int8
+int8-told = then-told _ _ byte-told (λ b. done-told _)
+
+was16 : (x : Found ℕ) (why : ℕ) → signed16 x ≡ refused why → x ≡ refused why
+was16 (got v n) why e = not-both (sym e)
+was16 (refused u) why e = let z : u ≡ why = cc in ap refused z
+
+pub int16-told : Told int16
+unfolding int16
+int16-told bs why e = varint-told 32 5 bs why (was16 (varint 32 5 bs) why e)
+
+pub int32-told : Told int32
+unfolding int32
+int32-told = then-told _ _ number32-told (λ n. done-told _)
+
+pub int64-told : Told int64
+unfolding int64
+int64-told = then-told _ _ number64-told (λ n. done-told _)
+
+pub double-told : Told double
+unfolding double
+double-told = then-told _ _ (some-told 8) (λ bs. done-told _)
+
+pub uuid-told : Told uuid
+unfolding uuid
+uuid-told = some-told 16
+
+pub truth-told : Told truth
+unfolding truth
+truth-told = then-told _ _ byte-told (λ b. provided-told _ _ _ (record { some = omega arith; below = omega arith }) (done-told _))
+
+-- strings and headers
+module _ (lim : TConfiguration) where
+  pub binary-told : Told (binary lim)
+  unfolding binary
+  binary-told = then-told _ _ number32-told (λ n. provided-told _ _ _ (record { some = omega arith; below = omega arith }) (some-told n))
+
+  pub text-told : Told (text lim)
+  unfolding text
+  text-told = then-told _ _ binary-told (λ bs. provided-told _ _ _ (record { some = omega arith; below = omega arith }) (done-told _))
+
+  counted-told : (n : ℕ) → Told (counted lim n)
+  unfolding counted
+  counted-told n =
+      provided-told _ _ _ (record { some = omega arith; below = omega arith })
+      (provided-told _ _ _ (record { some = omega arith; below = omega arith }) (done-told n))
+
+  listed-told : (t : TType) (n : ℕ) → Told (listed lim t n)
+  unfolding listed
+  listed-told t n = then-told _ _ (counted-told n) (λ m. done-told _)
+
+  pub items-told : Told (items lim)
+  unfolding items
+  items-told =
+      then-told _ _ byte-told
+      (λ b. then-told _ _ (typed-told (elementType (b % 16)) (element-typed (b % 16)))
+      (λ t. then-told _ _ (cond-told (ltb (b / 16) 15) _ _ (done-told (b / 16)) number32-told) (λ n. listed-told t n)))
+
+  mapped-told : (n : ℕ) → Told (mapped lim n)
+  unfolding mapped
+  mapped-told n =
+      then-told _ _ byte-told
+      (λ b. then-told _ _ (typed-told (elementType (b / 16)) (element-typed (b / 16)))
+      (λ k. then-told _ _ (typed-told (elementType (b % 16)) (element-typed (b % 16)))
+      (λ v. then-told _ _ (counted-told n) (λ m. done-told _))))
+
+  pub pairs-told : Told (pairs lim)
+  unfolding pairs
+  pairs-told = then-told _ _ number32-told (λ n. cond-told (eqb n 0) _ _ (done-told _) (mapped-told n))
+
+  named-told : (m : TMessageType) → Told (named lim m)
+  unfolding named
+  named-told m = then-told _ _ number32-told (λ n. then-told _ _ text-told (λ name. done-told _))
+
+  versioned-told : Told (versioned lim)
+  unfolding versioned
+  versioned-told =
+      then-told _ _ byte-told
+      (λ b. provided-told _ _ _ (record { some = omega arith; below = omega arith })
+      (then-told _ _ (called-told (messageByNumber (b / 32)) (message-called (b / 32))) (λ m. named-told m)))
+
+  pub message-told : Told (message lim)
+  unfolding message
+  message-told = then-told _ _ byte-told (λ b. provided-told _ _ _ (record { some = omega arith; below = omega arith }) versioned-told)
+
+-- fields
+module _ (last : ℤ) where
+  id-told : (delta : ℕ) → Told (fieldId last delta)
+  unfolding fieldId
+  id-told delta =
+      cond-told (eqb delta 0) _ _ int16-told
+      (cond-told (ltZ (pos 32767) (last +ℤ pos delta)) _ _ (refuse-told _ (record { some = omega arith; below = omega arith })) (done-told _))
+
+  type-told : (delta : ℕ) (r : FieldType) → Kind r → Told (ofType last delta r)
+  type-told delta FT.Stop h = done-told _
+  type-told delta (FT.Truth b) h = then-told _ _ (id-told delta) (λ id. done-told _)
+  type-told delta (FT.Kind t) h = then-told _ _ (id-told delta) (λ id. done-told _)
+  type-told delta (FT.Refused w) h = refuse-told w h
+
+  pub field-told : Told (field last)
+  unfolding field
+  field-told = then-told _ _ byte-told (λ b. type-told (b / 16) (fieldType (b % 16)) (field-kind (b % 16)))

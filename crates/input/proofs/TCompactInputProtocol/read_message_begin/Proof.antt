@@ -1,0 +1,16 @@
+use borrow.Author.Needs.{needs}
+use Rattle.input.proofs.Cases.{message-cases}
+use Rattle.input.proofs.TCompactInputProtocol.read_message_begin.Statement.{statement}
+use Rattle.input.proofs.TCompactInputProtocol.read_message_begin.Tie as tie
+
+pub read-message-begin-spec : {M : Type 1} → statement M
+read-message-begin-spec =
+    tie.close
+    (tie.spec
+    (λ c κs. search needs)
+    (λ c. search message-cases)
+    (λ c κs. search needs)
+    (λ c. search needs)
+    (λ c. search needs)
+    (λ c. search message-cases)
+    (λ c. search message-cases))

@@ -1,0 +1,282 @@
+// Scalars.
+ghost use mathlib.Core.Path.{_≡_};
+ghost use Rattle.input.specs.Calls.{readBool, elementBool, readI8, readI16, readI32, readI64, readDouble, readUuid, readBytes, readString};
+use crate::Awaited;
+use crate::BoolAnswer;
+use crate::DoubleAnswer;
+use crate::I8Answer;
+use crate::I16Answer;
+use crate::I32Answer;
+use crate::I64Answer;
+use crate::PartAnswer;
+use crate::Pending;
+use crate::ReadBool;
+use crate::ReadDouble;
+use crate::ReadI8;
+use crate::ReadI16;
+use crate::ReadI32;
+use crate::ReadI64;
+use crate::ReadPart;
+use crate::TCompactInputProtocol;
+use heads::BoolRead;
+use heads::DoubleRead;
+use heads::I8Read;
+use heads::I16Read;
+use heads::I32Read;
+use heads::I64Read;
+use heads::PartRead;
+
+impl TCompactInputProtocol {
+    // A bool that waits is taken, for no byte; where none does, an element's bool is read.
+    pub fn read_bool(self, s: &[u8]) -> ReadBool
+        ensures { λ r. ⌜ r ≡ readBool (now (s .entry)) self ⌝ }
+    {
+        if self.is_sound(s.len()) {
+            let pending = self.pending;
+            let awaited = pending.0;
+            return match awaited {
+                Awaited::Truth(truth) => {
+                    let pending = Pending(Awaited::Nothing);
+                    let mut next = self;
+                    next.pending = pending;
+                    ReadBool {
+                        answer: BoolAnswer::Got(truth),
+                        state: next,
+                    }
+                }
+                Awaited::Nothing => self.element_bool(s),
+            };
+        }
+        ReadBool {
+            answer: BoolAnswer::Refused(types::BAD_STATE),
+            state: self,
+        }
+    }
+
+    fn element_bool(self, s: &[u8]) -> ReadBool
+        ensures { λ r. ⌜ r ≡ elementBool (now (s .entry)) self ⌝ }
+    {
+        match heads::read_bool(s, self.place) {
+            BoolRead::Refused(why) => ReadBool {
+                answer: BoolAnswer::Refused(why),
+                state: self,
+            },
+            BoolRead::Got(truth, place) => {
+                let mut next = self;
+                next.place = place;
+                ReadBool {
+                    answer: BoolAnswer::Got(truth),
+                    state: next,
+                }
+            }
+        }
+    }
+
+    pub fn read_i8(self, s: &[u8]) -> ReadI8
+        ensures { λ r. ⌜ r ≡ readI8 (now (s .entry)) self ⌝ }
+    {
+        let why = self.refusal(s.len());
+        if why != 0 {
+            return ReadI8 {
+                answer: I8Answer::Refused(why),
+                state: self,
+            };
+        }
+        match heads::read_i8(s, self.place) {
+            I8Read::Refused(why) => ReadI8 {
+                answer: I8Answer::Refused(why),
+                state: self,
+            },
+            I8Read::Got(n, place) => {
+                let mut next = self;
+                next.place = place;
+                ReadI8 {
+                    answer: I8Answer::Got(n),
+                    state: next,
+                }
+            }
+        }
+    }
+
+    pub fn read_i16(self, s: &[u8]) -> ReadI16
+        ensures { λ r. ⌜ r ≡ readI16 (now (s .entry)) self ⌝ }
+    {
+        let why = self.refusal(s.len());
+        if why != 0 {
+            return ReadI16 {
+                answer: I16Answer::Refused(why),
+                state: self,
+            };
+        }
+        match heads::read_i16(s, self.place) {
+            I16Read::Refused(why) => ReadI16 {
+                answer: I16Answer::Refused(why),
+                state: self,
+            },
+            I16Read::Got(n, place) => {
+                let mut next = self;
+                next.place = place;
+                ReadI16 {
+                    answer: I16Answer::Got(n),
+                    state: next,
+                }
+            }
+        }
+    }
+
+    pub fn read_i32(self, s: &[u8]) -> ReadI32
+        ensures { λ r. ⌜ r ≡ readI32 (now (s .entry)) self ⌝ }
+    {
+        let why = self.refusal(s.len());
+        if why != 0 {
+            return ReadI32 {
+                answer: I32Answer::Refused(why),
+                state: self,
+            };
+        }
+        match heads::read_i32(s, self.place) {
+            I32Read::Refused(why) => ReadI32 {
+                answer: I32Answer::Refused(why),
+                state: self,
+            },
+            I32Read::Got(n, place) => {
+                let mut next = self;
+                next.place = place;
+                ReadI32 {
+                    answer: I32Answer::Got(n),
+                    state: next,
+                }
+            }
+        }
+    }
+
+    pub fn read_i64(self, s: &[u8]) -> ReadI64
+        ensures { λ r. ⌜ r ≡ readI64 (now (s .entry)) self ⌝ }
+    {
+        let why = self.refusal(s.len());
+        if why != 0 {
+            return ReadI64 {
+                answer: I64Answer::Refused(why),
+                state: self,
+            };
+        }
+        match heads::read_i64(s, self.place) {
+            I64Read::Refused(why) => ReadI64 {
+                answer: I64Answer::Refused(why),
+                state: self,
+            },
+            I64Read::Got(n, place) => {
+                let mut next = self;
+                next.place = place;
+                ReadI64 {
+                    answer: I64Answer::Got(n),
+                    state: next,
+                }
+            }
+        }
+    }
+
+    pub fn read_double(self, s: &[u8]) -> ReadDouble
+        ensures { λ r. ⌜ r ≡ readDouble (now (s .entry)) self ⌝ }
+    {
+        let why = self.refusal(s.len());
+        if why != 0 {
+            return ReadDouble {
+                answer: DoubleAnswer::Refused(why),
+                state: self,
+            };
+        }
+        match heads::read_double(s, self.place) {
+            DoubleRead::Refused(why) => ReadDouble {
+                answer: DoubleAnswer::Refused(why),
+                state: self,
+            },
+            DoubleRead::Got(bits, place) => {
+                let mut next = self;
+                next.place = place;
+                ReadDouble {
+                    answer: DoubleAnswer::Got(bits),
+                    state: next,
+                }
+            }
+        }
+    }
+
+    pub fn read_uuid(self, s: &[u8]) -> ReadPart
+        ensures { λ r. ⌜ r ≡ readUuid (now (s .entry)) self ⌝ }
+    {
+        let why = self.refusal(s.len());
+        if why != 0 {
+            return ReadPart {
+                answer: PartAnswer::Refused(why),
+                state: self,
+            };
+        }
+        match heads::read_uuid(s, self.place) {
+            PartRead::Refused(why) => ReadPart {
+                answer: PartAnswer::Refused(why),
+                state: self,
+            },
+            PartRead::Got(start, end) => {
+                let mut next = self;
+                next.place = end;
+                ReadPart {
+                    answer: PartAnswer::Got(start, end),
+                    state: next,
+                }
+            }
+        }
+    }
+
+    pub fn read_bytes(self, s: &[u8]) -> ReadPart
+        ensures { λ r. ⌜ r ≡ readBytes (now (s .entry)) self ⌝ }
+    {
+        let why = self.refusal(s.len());
+        if why != 0 {
+            return ReadPart {
+                answer: PartAnswer::Refused(why),
+                state: self,
+            };
+        }
+        match heads::read_bytes(s, self.place, self.limits) {
+            PartRead::Refused(why) => ReadPart {
+                answer: PartAnswer::Refused(why),
+                state: self,
+            },
+            PartRead::Got(start, end) => {
+                let mut next = self;
+                next.place = end;
+                ReadPart {
+                    answer: PartAnswer::Got(start, end),
+                    state: next,
+                }
+            }
+        }
+    }
+
+    pub fn read_string(self, s: &[u8]) -> ReadPart
+        ensures { λ r. ⌜ r ≡ readString (now (s .entry)) self ⌝ }
+    {
+        let why = self.refusal(s.len());
+        if why != 0 {
+            return ReadPart {
+                answer: PartAnswer::Refused(why),
+                state: self,
+            };
+        }
+        match heads::read_string(s, self.place, self.limits) {
+            PartRead::Refused(why) => ReadPart {
+                answer: PartAnswer::Refused(why),
+                state: self,
+            },
+            PartRead::Got(start, end) => {
+                let mut next = self;
+                next.place = end;
+                ReadPart {
+                    answer: PartAnswer::Got(start, end),
+                    state: next,
+                }
+            }
+        }
+    }
+}

@@ -1,0 +1,13 @@
+pub mod Walks
+pub mod Past
+pub mod Leaf
+pub mod Lawfuls
+pub mod Cycle
+pub mod Complete
+pub mod Sound
+pub mod Theorems
+pub mod Room
+pub mod Samples
+pub mod Call
+pub mod Told
+pub mod Laws
