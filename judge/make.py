@@ -63,6 +63,14 @@ class Judges:
         assert len(answers) == len(calls)
         return answers
 
+    def words(self, calls, all_of=False):
+        """The crate's own words for the last call of each (bytes, calls), or for all of them, under the port's widest limits."""
+        lines = ''.join(f'{LIMITS} {tidy(data)} {" ".join(names)}\n' for data, names in calls)
+        told = [run([os.path.join(self.work, name)], lines) for name in ('oracle', 'oracle-chk')]
+        both = [agree(c, *[w.split(' ; ')[0].split() for w in ws]) for c, *ws in zip(calls, *told)]
+        assert len(both) == len(calls)
+        return both if all_of else [w[-1] for w in both]
+
     def crate_writes(self, calls):
         lines = ''.join(f'W - 64 {call}\n' for call in calls)
         return [agree(*both) for both in zip(*[run([os.path.join(self.work, name)], lines) for name in ('oracle', 'oracle-chk')])]
@@ -382,12 +390,131 @@ def utf8_answers(judges):
             yield f'utf8 {tidy(row)}', 'yes' if next(told) else 'no'
 
 
+# ------------------------------------------------------------------ calls of the reader, and skip
+
+TYPES = {'stop': 0, 'bool': 1, 'i8': 3, 'i16': 4, 'i32': 5, 'i64': 6, 'double': 7, 'string': 8, 'list': 9, 'set': 10, 'map': 11, 'struct': 12, 'uuid': 13}
+LIMITS = 'R 64 2147483647 2147483647 -'
+
+
+def call_rows():
+    """(title, call, [rows of bytes])"""
+    every = [bytes([b]) for b in range(256)]
+    long_ids = [bytes([t]) + uleb(zigzag(n)) for t in (1, 2, 5, 12) for n in (0, 1, -1, 14, 15, 16, 32767, -32768, 32768, 65537)]
+    yield 'field: every first byte alone', 'field', every
+    yield 'field: every first byte, then another header', 'field', [bytes([b, 0x15]) for b in range(256)]
+    yield 'field: ids written out, and what follows them', 'field', [row + bytes([b]) for row in long_ids for b in (0x15, 0xf1, 0x02, 0x00)]
+    yield 'field: past 32767', 'field', [b'\x05' + uleb(zigzag(n)) + bytes([d << 4 | 5]) for n in range(32750, 32768) for d in (1, 8, 15)]
+    yield 'field: cut short', 'field', [b'', b'\x05', b'\x01\x80', b'\x05\xff\xff', b'\x0e', b'\x0f\x80', b'\x05' + b'\xff' * 5]
+    counts = [uleb(n) for n in (0, 1, 14, 15, 16, 127, 128, 16384, (1 << 31) - 1, 1 << 31, (1 << 32) - 1)] + [b'\x80\x00', b'\x8f\x00', b'\xff' * 5, b'\x80', b'']
+    for name in ('list', 'set'):
+        yield f'{name}: every first byte', name, every
+        yield f'{name}: counts behind it', name, [bytes([0xf0 | t]) + n for t in (0, 1, 2, 5, 13, 14, 15) for n in counts]
+    yield 'map: counts, with types and without', 'map', [n + tail for n in counts for tail in (b'', b'\x85', b'\x12', b'\x00', b'\xe5', b'\x5e', b'\xff')]
+    yield 'map: every byte of types', 'map', [b'\x01' + bytes([b]) for b in range(256)]
+    names = [b'\x00', b'\x01t', b'\x03abc', b'\x02\xc3\xa9', b'\x01\xc3', b'\x02\xc3', b'', b'\x80\x00', b'\x05ab', b'\xff\xff\xff\xff\x0f', b'\xff\xff\xff\xff\x07']
+    yield 'message: every second byte', 'message', [bytes([0x82, b, 1, 1]) + b't' for b in range(256)]
+    yield 'message: sequence numbers and names', 'message', [b'\x82\x21' + n + name for n in counts for name in names]
+    yield 'message: the first byte, cut short', 'message', [bytes([b, 0x21, 1, 1]) + b't' for b in (0, 0x80, 0x81, 0x82, 0x83, 0xff)] + [b'', b'\x82', b'\x82\x21', b'\x82\x21\x01']
+    for name in ('bytes', 'string'):
+        yield f'{name}: lengths, contents, cut short', name, [row + tail for row in names for tail in (b'', b'\x00\xff')]
+    yield 'uuid', 'uuid', [bytes(range(k)) for k in range(19)]
+    yield 'bool: every byte', 'bool', every + [b'']
+
+
+def said(name, words):
+    """A call's answer in the crate's words, `VALUE@PLACE` or `!N`, as the port says it."""
+    if words.startswith('!'):
+        return f'refused {int(words[1:])}'
+    value, place = words.rsplit('@', 1)
+    parts = value.split(',')
+    if name == 'bool':
+        return ('yes' if value == 'true' else 'no') + f' {place}'
+    if name == 'field':
+        return f'stop {place}' if value == 'stop' else f'{TYPES[parts[1]]} {parts[0]} {place}'
+    if name in ('list', 'set'):
+        return f'{TYPES[parts[0]]} {parts[1]} {place}'
+    if name == 'map':
+        return f'0 0 0 {place}' if value == '0' else f'{TYPES[parts[0]]} {TYPES[parts[1]]} {parts[2]} {place}'
+    if name == 'message':
+        return f'{parts[0]} {parts[1]} {parts[2][1:] or "-"} {place}'
+    return f'{value[1:] or "-"} {place}'
+
+
+def field_answers(judges, rows):
+    """Two fields in a row, a bool's value taken behind its header: asked of the crate in as many steps."""
+    first = judges.words([(row, ['field']) for row in rows])
+    is_bool = lambda w: w.rsplit('@', 1)[0].endswith(',bool')
+    goes = lambda w: not w.startswith('!') and not w.startswith('stop')
+    order = [['field'] + (['bool'] if is_bool(w) else []) + ['field'] for w in first]
+    second = judges.words([(row, calls) for row, calls, w in zip(rows, order, first) if goes(w)], all_of=True)
+    third = iter(second)
+    out = []
+    for row, w in zip(rows, first):
+        line = said('field', w)
+        if goes(w):
+            told = next(third)
+            if is_bool(w):
+                line += ' yes' if told[1].startswith('true') else ' no'
+            line += ' ' + said('field', told[-1])
+            if is_bool(told[-1]):
+                again = judges.words([(row, (['field', 'bool'] if is_bool(w) else ['field']) + ['field', 'bool'])])[0]
+                line += ' yes' if again.startswith('true') else ' no'
+        out.append(line)
+    return out
+
+
+def call_answers(judges):
+    for title, name, rows in call_rows():
+        yield '# call ' + title, None
+        told = field_answers(judges, rows) if name == 'field' else [said(name, w) for w in judges.words([(row, [name]) for row in rows])]
+        for row, answer in zip(rows, told):
+            yield f'call {name} {tidy(row)}', answer
+
+
+def skip_rows():
+    """(title, [(type, bytes)]): nesting of at most 63, and no map with values of type Stop, where the crate differs by intent"""
+    names = [n for n in TYPES if n != 'stop']
+    yield 'every type on every byte', [(n, bytes([b])) for n in names for b in range(256) if not (n == 'map' and b)]
+    yield 'stop', [('stop', b''), ('stop', b'\x00')]
+    shapes = [bytes.fromhex(h) for h in (
+        '11250100', '1117000000000000f03f150100', '1c00', '2c0000', '25020400', '19250204', '2b', '0185017402', '0185017402',
+        '02851174', '1b01850174020000', '13050016020000', '0c060000', '00', '0500', '0580010200', 'f5010200', 'e5020400',
+        '190c00', '1d' + '00' * 16, '17' + '00' * 8, '18047465737400', '1802ff0000', '211102', '121100')]
+    rows = []
+    for shape in shapes:
+        for n in ('struct', 'list', 'set', 'map', 'string', 'i64', 'uuid', 'double'):
+            for k in range(len(shape) + 1):
+                rows.append((n, shape[:k]))
+    yield 'values of each kind, whole and cut short', [(n, r) for n, r in dict.fromkeys(rows) if not stop_values(n, r)]
+    yield 'nested lists', [('list', b'\x19' * k + b'\x03') for k in (0, 1, 2, 31, 61, 62)] + [('list', b'\x19' * 65 + b'\x03')]
+    yield 'nested structs', [('struct', b'\x1c' * k + b'\x00' * (k + 1)) for k in (0, 1, 31, 62)]
+    dice = random.Random(1900)
+    damaged = []
+    for _ in range(300):
+        row = bytearray(b''.join(dice.choice(shapes) for _ in range(2)))
+        row[dice.randrange(len(row))] = dice.randrange(256)
+        damaged.append((dice.choice(('struct', 'list', 'set')), bytes(row[:60])))
+    yield 'damaged by chance', damaged
+
+
+def stop_values(name, row):
+    return name == 'map' and len(row) > 1 and row[0] not in (0,) and row[1] & 15 == 0
+
+
+def skip_answers(judges):
+    for title, rows in skip_rows():
+        told = judges.words([(row, ['skip:' + name]) for name, row in rows])
+        yield '# skip ' + title, None
+        for (name, row), w in zip(rows, told):
+            yield f'skip {TYPES[name]} {tidy(row)}', f'refused {int(w[1:])}' if w.startswith('!') else w.rsplit('@', 1)[1]
+
+
 def main():
     if len(sys.argv) not in (3, 4):
         sys.exit(__doc__)
     with tempfile.TemporaryDirectory() as spare:
         judges = Judges(sys.argv[1], sys.argv[2], sys.argv[3] if len(sys.argv) == 4 else spare)
-        lines = [line for part in (read_answers, write_answers, utf8_answers) for line in part(judges)]
+        lines = [line for part in (read_answers, write_answers, utf8_answers, call_answers, skip_answers) for line in part(judges)]
     with open(os.path.join(CRATE, 'stdin'), 'w') as cases, open(os.path.join(CRATE, 'stdout'), 'w') as answers:
         for case, answer in lines:
             cases.write(case + '\n')

@@ -1,6 +1,7 @@
 // Replays cases that outside judges have answered. A line of standard input is a case, `GROUP WORD WORD ..`; it is written again with its
 // answer behind it, `read u32 df8903 = 50399 3`. Empty lines, and lines that begin with #, are written as they stand.
 // The judges' answers, in the same form, are the file stdout.
+mod call_cases;
 mod number_cases;
 mod say;
 mod utf8_cases;
@@ -19,12 +20,18 @@ const UTF8: u64 = 0x75746638;
 
 const GAP: u64 = 0x676170;
 
+const CALL: u64 = 0x63616c6c;
+
+const SKIP: u64 = 0x736b6970;
+
 fn answer(line: &[u8]) {
     match words::name(line, 0) {
         READ => number_cases::read(line),
         WRITE => number_cases::write(line),
         UTF8 => utf8_cases::passes(line),
         GAP => utf8_cases::gap(line),
+        CALL => call_cases::call(line),
+        SKIP => call_cases::skip(line),
         _ => say::text(b" ?"),
     }
 }

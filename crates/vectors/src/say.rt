@@ -36,12 +36,12 @@ pub(crate) fn text(s: &[u8]) {
     io::write_all(STDOUT_FILENO, s);
 }
 
-fn number(n: u64) {
+pub(crate) fn number(n: u64) {
     text(b" ");
     io::print_decimal(STDOUT_FILENO, n);
 }
 
-fn signed(n: i64) {
+pub(crate) fn signed(n: i64) {
     if 0 <= n {
         text(b" ");
     } else {
