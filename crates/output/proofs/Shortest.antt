@@ -1,0 +1,121 @@
+-- No shorter bytes that the rules allow read as a field than those of its header. A delta of 15 is read and never written ("the writer uses the
+-- short form for exact differences 1 to 14"), so it is left out. Assumes nothing.
+use mathlib.Core.Path.{_≡_, refl, sym, ap, subst, _∙_}
+use mathlib.Core.Bool.{Bool, true, false, cond}
+use mathlib.Core.List.{List, [], _∷_}
+use Prim.Native.Nat.{ℕ, zero, suc, _+_, _/_, _%_, _^_, _≤_, _<_}
+use native.Mathlib.Nat.{mod-le, lt-of-le-of-lt}
+use native.Mathlib.Omega.{arith}
+use borrow.Author.Tests.{ne-eqb}
+use lib.IntN.{ℤ, pos, negsuc, _+ℤ_}
+use lib.ListN.{length, getD}
+use lib.Signed.{ltZ}
+use mir.Syntax.{w16, w32}
+use mir.Val.{SFits, ofZ}
+use Rattle.types.specs.Refusals.{FIELD-ID}
+use Rattle.types.specs.Codes.{fieldType}
+use Rattle.types.specs.declared.FieldType.{FieldType}
+use Rattle.types.specs.declared.FieldType.the-variants as FT
+use Rattle.numbers.specs.Varint.{Found, got, refused, placed, varint, groups}
+use Rattle.numbers.specs.Zigzag.{zigzag, unzigzag, low16}
+use Rattle.numbers.specs.Answers.{signed16}
+use Rattle.numbers.proofs.Found.{by-lt, kept, took}
+use Rattle.numbers.proofs.Fewest.{shortest, at-most}
+use Rattle.numbers.proofs.Zig.{zig-un, zig-below, low-half}
+use Rattle.heads.specs.Reader.{done, refuse, andThen, byte}
+use Rattle.heads.specs.Heads.{int16, fieldId, ofType, field, Field, stop, bool, value}
+use Rattle.heads.proofs.Lawful.{both, not-both}
+use Rattle.heads.proofs.Steps.{found-at}
+use Rattle.output.specs.Bytes.{intBytes, shortDelta, fieldBytes}
+use Rattle.output.proofs.Fields.{long-form, short-form, short}
+
+-- a number that v bytes read as is below 128 ^ v
+below-read : (w k : ℕ) (bs : List ℕ) (n m : ℕ) → varint w k bs ≡ got n m → n < 128 ^ m
+below-read w k bs n m e =
+    let f = kept w 0 n (0 + m) (groups k bs) (ap (placed 0) e) in
+    let t = took k bs (f .value) (f .used) (f .is) in
+    let same : f .used ≡ m = omega (arith, f .ends) in
+    subst (λ (i : ℕ). n < 128 ^ i) same (subst (λ (i : ℕ). i < 128 ^ f .used) (f .low) (lt-of-le-of-lt (mod-le (f .value) (2 ^ w)) (t .below)))
+
+three : (n m : ℕ) → n < 128 ^ m → 2 ^ 16 ≤ n → 3 ≤ m
+three n zero h k = absurd (omega arith)
+three n (suc zero) h k = absurd (omega arith)
+three n (suc (suc zero)) h k = absurd (omega arith)
+three n (suc (suc (suc m))) h k = omega arith
+
+zig-small : (z : ℤ) → zigzag z < 2 ^ 16 → SFits w16 z
+zig-small (pos n) h = record { sfits = omega arith }
+zig-small (negsuc n) h = record { sfits = omega arith }
+
+-- bytes that read as an i16 are no fewer than those that it is written as
+number-shortest : (x : Found ℕ) (bs : List ℕ) (z : ℤ) (k : ℕ) → varint 32 5 bs ≡ x → signed16 x ≡ got z k → SFits w16 z → length (intBytes z) ≤ k
+number-shortest (refused why) bs z k e f h = not-both f
+number-shortest (got v m) bs z k e f h =
+    let q : m ≡ k = cc in
+    let low : low16 (ofZ w32 (unzigzag v)) ≡ z = cc in
+    by-lt v (2 ^ 16)
+    (λ l.
+    let s : SFits w16 (unzigzag v) = zig-small (unzigzag v) (subst (λ (n : ℕ). n < 2 ^ 16) (sym (zig-un v)) l) in
+    let same : zigzag z ≡ v = ap zigzag (sym low ∙ low-half (unzigzag v) s) ∙ zig-un v in
+    rw (same, ← q) (shortest 32 5 bs v m e))
+    (λ l.
+    let b = zig-below w16 z h in
+    omega (arith, three v m (below-read 32 5 bs v m e) l, at-most 2 (zigzag z) (omega arith)))
+
+pub i16-shortest : (bs : List ℕ) (z : ℤ) (k : ℕ) → int16 bs ≡ got z k → SFits w16 z → length (intBytes z) ≤ k
+unfolding int16
+i16-shortest bs z k e h = number-shortest (varint 32 5 bs) bs z k refl e h
+
+-- the length of either form
+module _ (last id : ℤ) (code k : ℕ) where
+  form-shortest : length (intBytes id) ≤ k → length (fieldBytes last id code) ≤ suc k
+  form-shortest h = go (shortDelta last id) refl
+    where
+      go : (d : ℕ) → shortDelta last id ≡ d → length (fieldBytes last id code) ≤ suc k
+      go zero e = omega (arith, ap length (long-form last id code e))
+      go (suc d) e = omega (arith, ap length (short-form last id code (λ z. omega (arith, sym e ∙ z))))
+
+  found-sum : (b : Bool) (s : ℤ) (xs : List ℕ) → cond b (refuse FIELD-ID) (done s) xs ≡ got id k → s ≡ id
+  unfolding done refuse
+  found-sum true s xs e = not-both e
+  found-sum false s xs e = cc
+
+  -- an id behind a delta that the rules let a writer use
+  id-shortest : (d : ℕ) (xs : List ℕ) → fieldId last d xs ≡ got id k → d < 15 → SFits w16 id → length (fieldBytes last id code) ≤ suc k
+  unfolding fieldId
+  id-shortest zero xs e h f = form-shortest (i16-shortest xs id k e f)
+  id-shortest (suc d) xs e h f =
+      let g = rw (ne-eqb (suc d) 0 (λ z. omega arith)) at e in
+      let s : last +ℤ pos (suc d) ≡ id = found-sum (ltZ (pos 32767) (last +ℤ pos (suc d))) (last +ℤ pos (suc d)) xs g in
+      let l = ap length (ap (λ (z : ℤ). fieldBytes last z code) (sym s) ∙ short last (suc d) code (omega arith) h) in
+      omega arith
+
+-- a field with this id
+abbrev pub Has : ℤ → Field → Type 0
+Has id stop = ⊥
+Has id (bool b i) = i ≡ id
+Has id (value t i) = i ≡ id
+
+made : (last id : ℤ) (d : ℕ) (xs : List ℕ) (y : Field) (m : ℕ) (make : ℤ → Field) → ((i : ℤ) → Has id (make i) → i ≡ id) → andThen (fieldId last d) (λ i. done (make i)) xs ≡ got y m → Has id y → (k : ℕ) × (fieldId last d xs ≡ got id k) × (k ≤ m)
+unfolding andThen done
+made last id d xs y m make back e h =
+    let f = both (fieldId last d xs) (λ i. done (make i)) xs y m e in
+    let is : make (f .one) ≡ y = cc in
+    let i : f .one ≡ id = back (f .one) (subst (Has id) (sym is) h) in
+    (f .used, f .first ∙ ap (λ (j : ℤ). got j (f .used)) i, omega (arith, f .all))
+
+id-of : (last id : ℤ) (d : ℕ) (x : FieldType) (xs : List ℕ) (y : Field) (m : ℕ) → ofType last d x xs ≡ got y m → Has id y → (k : ℕ) × (fieldId last d xs ≡ got id k) × (k ≤ m)
+unfolding done refuse
+id-of last id d FT.Stop xs y m e h = let s : stop ≡ y = cc in absurd (subst (Has id) (sym s) h)
+id-of last id d (FT.Truth b) xs y m e h = made last id d xs y m (bool b) (λ i q. q) e h
+id-of last id d (FT.Kind t) xs y m e h = made last id d xs y m (value t) (λ i q. q) e h
+id-of last id d (FT.Refused why) xs y m e h = not-both e
+
+-- bytes that read as a field with this id, whose first byte has a delta that a writer may use, are no fewer than its header's
+pub header-shortest : (last id : ℤ) (code : ℕ) (bs : List ℕ) (y : Field) (n : ℕ) → SFits w16 id → Has id y → field last bs ≡ got y n → getD bs 0 0 / 16 < 15 → length (fieldBytes last id code) ≤ n
+unfolding field andThen byte
+header-shortest last id code [] y n f h e l = not-both e
+header-shortest last id code (b ∷ bs) y n f h e l =
+    let g = found-at 1 (ofType last (b / 16) (fieldType (b % 16)) bs) y n e in
+    let i = id-of last id (b / 16) (fieldType (b % 16)) bs y (g .0) (g .1) h in
+    omega (arith, id-shortest last id code (i .0) (b / 16) bs (i .1) l f, i .2, g .2)

@@ -1,0 +1,17 @@
+use borrow.Author.Needs.{needs}
+use Rattle.output.proofs.Cases.{text-cases}
+use Rattle.output.proofs.TCompactOutputProtocol.write_string.Statement.{statement}
+use Rattle.output.proofs.TCompactOutputProtocol.write_string.Tie as tie
+
+pub write-string-spec : {M : Type 1} → statement M
+write-string-spec =
+    tie.close
+    (tie.spec
+    (λ c κs. search needs)
+    (λ c κs. search needs)
+    (λ c κs. search needs)
+    (λ c. search text-cases)
+    (λ c κs. search text-cases)
+    (λ c κs. search needs)
+    (λ c. search needs)
+    (λ c. search text-cases))

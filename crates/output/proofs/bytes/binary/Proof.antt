@@ -1,0 +1,18 @@
+use borrow.Author.Needs.{needs}
+use Rattle.output.proofs.Pieces.{binary-cases}
+use Rattle.output.proofs.bytes.binary.Statement.{statement}
+use Rattle.output.proofs.bytes.binary.Tie as tie
+
+pub binary-spec : {M : Type 1} → statement M
+binary-spec =
+    tie.close
+    (tie.spec
+    (λ c κs. search needs)
+    (λ c. search binary-cases)
+    (λ c κs. search needs)
+    (λ c. search binary-cases)
+    (λ c κs. search needs)
+    (λ c. search binary-cases)
+    (λ c κs. search needs)
+    (λ c. search needs)
+    (λ c. search binary-cases))

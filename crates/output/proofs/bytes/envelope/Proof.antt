@@ -1,0 +1,23 @@
+use borrow.Author.Needs.{needs}
+use Rattle.output.proofs.Pieces.{envelope-cases}
+use Rattle.output.proofs.bytes.envelope.Statement.{statement}
+use Rattle.output.proofs.bytes.envelope.Tie as tie
+
+pub envelope-spec : {M : Type 1} → statement M
+envelope-spec =
+    tie.close
+    (tie.spec
+    (λ c κs. search needs)
+    (λ c. search envelope-cases)
+    (λ c κs. search needs)
+    (λ c. search envelope-cases)
+    (λ c. search envelope-cases)
+    (λ c κs. search needs)
+    (λ c. search envelope-cases)
+    (λ c κs. search needs)
+    (λ c. search envelope-cases)
+    (λ c κs. search needs)
+    (λ c. search envelope-cases)
+    (λ c κs. search needs)
+    (λ c. search needs)
+    (λ c. search envelope-cases))

@@ -1,0 +1,145 @@
+-- What each call answers, and what it leaves in the buffer: one definition for all of them, and for each call what can be wrong with it, its bytes
+-- and the state behind them. Assumes nothing: these are definitions.
+use Prim.Native.Nat.{ℕ}
+use mathlib.Core.Bool.{Bool, cond, _||_}
+use mathlib.Core.List.{List, [], _∷_}
+use lib.ListN.{length}
+use lib.Dec.{eqb, leb}
+use lib.IntN.{ℤ, pos}
+use lib.Signed.{ltZ}
+use mir.Syntax.{w8}
+use mir.Val.{ofZ}
+use Rattle.types.specs.Refusals.{BAD-TYPE, SIZE-LIMIT, NEGATIVE-SIZE, DEPTH, BAD-UTF8, OUT-OF-TURN}
+use Rattle.types.specs.Codes.{typeCode, truthCode}
+use Rattle.types.specs.declared.TType.{TType}
+use Rattle.types.specs.declared.TMessageType.{TMessageType}
+use Rattle.types.specs.declared.TConfiguration.{TConfiguration}
+use Rattle.types.specs.declared.FieldId.{FieldId}
+use Rattle.types.specs.declared.SeqNo.{SeqNo}
+use Rattle.numbers.specs.Fixed.{eight}
+use Rattle.numbers.specs.Answers.{wroteAt, putAt}
+use Rattle.numbers.specs.declared.Wrote.{Wrote}
+use Rattle.numbers.specs.declared.Wrote.the-variants as W
+use Rattle.utf8.specs.Utf8.{utf8}
+use Rattle.output.specs.State.{State, orElse, unsound, inTurn, movedTo, headed, awaiting, entered, ended}
+use Rattle.output.specs.Bytes.{above, intBytes, fieldBytes, itemsBytes, pairsBytes, stringBytes, messageBytes}
+use Rattle.output.specs.declared.AwaitedField.{AwaitedField}
+use Rattle.output.specs.declared.AwaitedField.the-variants as A
+use Rattle.output.specs.declared.WriteAnswer.the-variants as WA
+use Rattle.output.specs.declared.Written.{Written}
+
+-- a call: the refusal that a sound state gives it (0 is none), the bytes it writes, and the state behind them, its place apart
+pub data Call : Type 0 where
+  call : ℕ → List ℕ → State → Call
+
+-- "A refusal returns its number and the state as given"
+abbrev pub refusedBy : State → ℕ → Written
+refusedBy st why = record { answer = WA.Refused why; state = st }
+
+abbrev pub written : State → Written
+written st = record { answer = WA.Written; state = st }
+
+-- refused for want of room, or at the place behind the bytes
+unfoldable pub settled : State → State → Wrote → Written
+settled st next (W.To p) = written (movedTo next p)
+settled st next (W.Refused why) = refusedBy st why
+
+-- "Order: 15; 12; what the arguments show; 14"
+unfoldable pub writes : List ℕ → State → Call → Written
+writes buf st (call wrong bs next) =
+    cond (eqb (orElse (unsound (length buf) st) wrong) 0)
+    (settled st next (wroteAt buf (st .place .0) bs))
+    (refusedBy st (orElse (unsound (length buf) st) wrong))
+
+-- "lent buffers keep their bytes" on a refusal; else the bytes stand at the state's place
+unfoldable pub leaves : List ℕ → State → Call → List ℕ
+leaves buf st (call wrong bs next) =
+    cond (eqb (orElse (unsound (length buf) st) wrong) 0) (putAt buf (st .place .0) bs) buf
+
+-- "a length .. is over its limit"
+unfoldable pub lengthWrong : TConfiguration → List ℕ → ℕ
+lengthWrong lim bs = cond (leb (length bs) (lim .string)) 0 SIZE-LIMIT
+
+-- "a string or message name breaks RFC 3629", behind its length
+unfoldable pub textWrong : TConfiguration → List ℕ → ℕ
+textWrong lim bs = orElse (lengthWrong lim bs) (cond (utf8 bs) 0 BAD-UTF8)
+
+-- Stop, whose code is 0
+abbrev pub isStop : TType → Bool
+isStop t = eqb (typeCode t) 0
+
+-- "A field of type Stop is not written (4)"
+unfoldable pub fieldWrong : TType → ℕ
+fieldWrong t = cond (isStop t) BAD-TYPE 0
+
+-- a container's count: "Stop as element type: .. Written .. with a count over 0: BAD TYPE"; "9, then 8"; "a zero count is well formed"
+unfoldable pub countWrong : TConfiguration → TType → TType → ℤ → ℕ
+countWrong lim t u z =
+    cond (ltZ z (pos 0)) NEGATIVE-SIZE
+    (cond (eqb (above z) 0) 0
+    (cond (isStop t || isStop u) BAD-TYPE
+    (cond (leb (above z) (lim .container)) 0 SIZE-LIMIT)))
+
+-- "a struct is begun .. at the depth limit"
+unfoldable pub beginWrong : State → ℕ
+beginWrong st = cond (leb (st .limits .depth) (st .depth)) DEPTH 0
+
+-- "a struct is ended at depth 0"
+unfoldable pub endWrong : State → ℕ
+endWrong st = cond (eqb (st .depth) 0) OUT-OF-TURN 0
+
+-- "writing it doesn't" set the last field id
+abbrev pub messageCall : State → TMessageType → SeqNo → List ℕ → Call
+messageCall st m z name = call (inTurn st (textWrong (st .limits) name)) (messageBytes m (z .0) name) st
+
+abbrev pub structBeginCall : State → Call
+structBeginCall st = call (inTurn st (beginWrong st)) [] (entered st)
+
+abbrev pub structEndCall : State → Call
+structEndCall st = call (inTurn st (endWrong st)) [] (ended st)
+
+-- a bool field (Bool has the code 1) is only noted; of any other the header is written
+unfoldable pub fieldCall : State → TType → FieldId → Call
+fieldCall st t id =
+    call (inTurn st (fieldWrong t))
+    (cond (eqb (typeCode t) 1) [] (fieldBytes (st .last .0) (id .0) (typeCode t)))
+    (cond (eqb (typeCode t) 1) (awaiting st id) (headed st id))
+
+-- the struct's end is the byte 0
+abbrev pub stopCall : State → Call
+stopCall st = call (inTurn st 0) (0 ∷ []) st
+
+-- the header of the field that is pending, or an element: "true as 1 and false as 2"
+abbrev pub truthCall : State → Bool → AwaitedField → Call
+truthCall st b A.Nothing = call 0 (truthCode b ∷ []) st
+truthCall st b (A.Field id) = call 0 (fieldBytes (st .last .0) (id .0) (truthCode b)) (headed st id)
+
+unfoldable pub boolCall : State → Bool → Call
+boolCall st b = truthCall st b (st .pending .0)
+
+-- "Values of type i8 are encoded as one byte"
+abbrev pub i8Call : State → ℤ → Call
+i8Call st z = call (inTurn st 0) (ofZ w8 z ∷ []) st
+
+abbrev pub intCall : State → ℤ → Call
+intCall st z = call (inTurn st 0) (intBytes z) st
+
+-- "Double: 8 bytes, little-endian"
+abbrev pub doubleCall : State → ℕ → Call
+doubleCall st bits = call (inTurn st 0) (eight bits) st
+
+-- "Uuid: 16 bytes"
+abbrev pub uuidCall : State → List ℕ → Call
+uuidCall st bs = call (inTurn st 0) bs st
+
+abbrev pub bytesCall : State → List ℕ → Call
+bytesCall st bs = call (inTurn st (lengthWrong (st .limits) bs)) (stringBytes bs) st
+
+abbrev pub stringCall : State → List ℕ → Call
+stringCall st bs = call (inTurn st (textWrong (st .limits) bs)) (stringBytes bs) st
+
+abbrev pub itemsCall : State → TType → ℤ → Call
+itemsCall st t z = call (inTurn st (countWrong (st .limits) t t z)) (itemsBytes t (above z)) st
+
+abbrev pub pairsCall : State → TType → TType → ℤ → Call
+pairsCall st k v z = call (inTurn st (countWrong (st .limits) k v z)) (pairsBytes k v (above z)) st

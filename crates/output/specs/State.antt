@@ -1,0 +1,96 @@
+-- The writer's state: when it is sound, and each kind of move. Assumes nothing: these are definitions.
+use Prim.Native.Nat.{ℕ, _+_, _-_}
+use mathlib.Core.Bool.{cond, _&&_}
+use lib.ListN.{getD, set, replicate}
+use lib.Dec.{eqb, leb}
+use lib.IntN.{ℤ, pos}
+use Rattle.types.specs.Refusals.{OUT-OF-TURN, BAD-STATE}
+use Rattle.types.specs.Limits.{inRange}
+use Rattle.types.specs.declared.TConfiguration.{TConfiguration}
+use Rattle.types.specs.declared.Place.{Place}
+use Rattle.types.specs.declared.FieldId.{FieldId}
+use Rattle.output.specs.declared.AwaitedField.{AwaitedField}
+use Rattle.output.specs.declared.AwaitedField.the-variants as A
+use Rattle.output.specs.declared.PendingField.{PendingField}
+use Rattle.output.specs.declared.TCompactOutputProtocol.{TCompactOutputProtocol}
+
+abbrev pub State : Type 0
+State = TCompactOutputProtocol
+
+abbrev pub placeOf : ℕ → Place
+placeOf n = record { 0 = n }
+
+abbrev pub idOf : ℤ → FieldId
+idOf z = record { 0 = z }
+
+abbrev pub pendingOf : AwaitedField → PendingField
+pendingOf a = record { 0 = a }
+
+-- of two refusals the first; 0 is none
+unfoldable pub orElse : ℕ → ℕ → ℕ
+orElse a b = cond (eqb a 0) b a
+
+-- "a limit out of range, a place past the buffer's end, a depth over its limit": BAD STATE; "A state is sound when 15 is not given"
+unfoldable pub unsound : ℕ → State → ℕ
+unsound len st =
+    cond (inRange (st .limits) && leb (st .place .0) len && leb (st .depth) (st .limits .depth)) 0 BAD-STATE
+
+-- "a bool is pending and the call is [not] the bool call": OUT OF TURN
+abbrev pub turn : AwaitedField → ℕ
+turn A.Nothing = 0
+turn (A.Field id) = OUT-OF-TURN
+
+-- "Order: 15; 12; what the arguments show": for a call that is not the bool call, what stands behind 15
+unfoldable pub inTurn : State → ℕ → ℕ
+inTurn st wrong = orElse (turn (st .pending .0)) wrong
+
+-- a new writer: at the buffer's start, in no struct, with nothing pending
+unfoldable pub begun : TConfiguration → State
+begun lim =
+    record {
+      place = placeOf 0;
+      last = idOf (pos 0);
+      depth = 0;
+      ids = replicate 64 (pos 0);
+      pending = pendingOf A.Nothing;
+      limits = lim;
+    }
+
+-- at another place
+abbrev pub movedTo : State → ℕ → State
+movedTo st p =
+    record { place = placeOf p; last = st .last; depth = st .depth; ids = st .ids; pending = st .pending; limits = st .limits }
+
+-- behind a field's header: its id is the last one, and no bool is pending
+abbrev pub headed : State → FieldId → State
+headed st id =
+    record { place = st .place; last = id; depth = st .depth; ids = st .ids; pending = pendingOf A.Nothing; limits = st .limits }
+
+-- "A bool field's header is written by the bool call": till then the field is pending
+abbrev pub awaiting : State → FieldId → State
+awaiting st id =
+    record { place = st .place; last = st .last; depth = st .depth; ids = st .ids; pending = pendingOf (A.Field id); limits = st .limits }
+
+-- "Struct: begin saves the last id and sets 0"
+abbrev pub entered : State → State
+entered st =
+    record {
+      place = st .place;
+      last = idOf (pos 0);
+      depth = st .depth + 1;
+      ids = set (st .ids) (st .depth) (st .last .0);
+      pending = st .pending;
+      limits = st .limits;
+    }
+
+-- "end restores it"
+abbrev pub ended : State → State
+ended st =
+    record {
+      place = st .place;
+      last = idOf (getD (st .ids) (st .depth - 1) (pos 0));
+      depth = st .depth - 1;
+      ids = st .ids;
+      pending = st .pending;
+      limits = st .limits;
+    }
