@@ -1,1 +1,3 @@
 pub mod Table
+pub mod Spelt
+pub mod Back
