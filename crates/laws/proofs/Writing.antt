@@ -1,0 +1,414 @@
+-- A value within the limits, written by the calls, stands in the buffer as its bytes, and the state is as it was, its place behind them.
+-- Assumes nothing.
+use mathlib.Core.Path.{_≡_, refl, sym, ap, ap₂, subst, _∙_}
+use mathlib.Core.Bool.{Bool, true, false, cond, _||_}
+use mathlib.Core.List.{List, [], _∷_, _++_, append-assoc, append-nil}
+use Prim.Native.Nat.{ℕ, zero, suc, _+_, _-_, _≤_, _<_, max}
+use native.Mathlib.Nat.{add-zero}
+use native.Mathlib.Omega.{arith}
+use borrow.Author.Tests.{eq-eqb, ne-eqb, le-leb, lt-leb, le-ltb}
+use lib.Dec.{eqb, leb}
+use lib.ListN.{length, getD, set, length-append, length-set}
+use lib.Seq.{getD-set-same, getD-set-other}
+use lib.IntN.{ℤ, pos}
+use Rattle.types.specs.Codes.{typeCode, truthCode}
+use Rattle.types.specs.declared.TType.{TType}
+use Rattle.types.specs.declared.TType.the-variants as T
+use Rattle.types.specs.declared.TConfiguration.{TConfiguration}
+use Rattle.types.specs.declared.FieldId.{FieldId}
+use Rattle.types.specs.Value as val
+use Rattle.types.specs.Value.{Tree, Trees, no-trees, tree, Pairs, no-pairs, pair, Fields, no-fields, typeOf, size, sizeP, nesting, nestingAll, nestingPairs, nestingFields, Sized, SizedAll, SizedPairs, SizedFields, Typed, TypedAll, TypedPairs, TypedFields, Within}
+use Rattle.types.proofs.Limits.{Ranged}
+use Rattle.types.proofs.Value.{no-stop}
+use Rattle.numbers.specs.Answers.{putAt}
+use Rattle.numbers.proofs.Put.{put-put, length-put}
+use Rattle.output.specs.State.{State, idOf, placeOf, orElse, inTurn, turn, movedTo, headed, awaiting, entered, ended}
+use Rattle.output.specs.Bytes.{fieldBytes, itemsBytes, pairsBytes}
+use Rattle.output.specs.Calls.{Call, call, writes, leaves, written, countWrong, lengthWrong, fieldWrong, truthCall, beginWrong, endWrong, boolCall, i8Call, intCall, doubleCall, uuidCall, bytesCall, itemsCall, pairsCall, structBeginCall, structEndCall, fieldCall, stopCall}
+use Rattle.output.specs.declared.AwaitedField.{AwaitedField}
+use Rattle.output.specs.declared.AwaitedField.the-variants as A
+use Rattle.output.specs.declared.Written.{Written}
+use Rattle.output.specs.declared.WriteAnswer.{WriteAnswer}
+use Rattle.output.specs.declared.WriteAnswer.the-variants as WA
+use Rattle.output.proofs.Checks.{Sound}
+use Rattle.output.proofs.Laws.{Went, goes}
+use Rattle.laws.specs.Written.{fieldCode, inHeader, bytesOf, bytesOfAll, bytesOfPairs, bytesOfFields}
+use Rattle.laws.specs.Writing.{Step, Ran, ran, stopped, goOn, run, writeOf, writeAll, writePairs, writeFields}
+use Rattle.laws.proofs.Spelt.{InField, truthful, valued, in-field}
+
+-- a row of calls writes these bytes and ends in this state, wherever there is room
+unfoldable pub Runs : List Step → List ℕ → State → State → Type 0
+Runs cs bs st next = (buf : List ℕ) → Ranged (st .limits) → st .depth ≤ st .limits .depth → st .place .0 + length bs ≤ length buf → run cs buf st ≡ ran (putAt buf (st .place .0) bs) next
+
+-- n bytes on, with the same depth, limits and ids below the depth
+pub record Kept (st next : State) (n : ℕ) : Type 0 where
+  pub there : next .place .0 ≡ st .place .0 + n
+  pub deep : next .depth ≡ st .depth
+  pub lims : next .limits ≡ st .limits
+  pub long : length (next .ids) ≡ length (st .ids)
+  pub below : (i : ℕ) → i < st .depth → getD (next .ids) i (pos 0) ≡ getD (st .ids) i (pos 0)
+
+pub kept-then : (a b c : State) (n m : ℕ) → Kept a b n → Kept b c m → Kept a c (n + m)
+kept-then a b c n m f g =
+    record {
+      there = omega (arith, f .there, g .there);
+      deep = g .deep ∙ f .deep;
+      lims = g .lims ∙ f .lims;
+      long = g .long ∙ f .long;
+      below = λ i h. g .below i (omega (arith, f .deep)) ∙ f .below i h;
+    }
+
+ran-buf : {b c : List ℕ} {s t : State} → ran b s ≡ ran c t → b ≡ c
+ran-buf e = cc
+
+ran-state : {b c : List ℕ} {s t : State} → ran b s ≡ ran c t → s ≡ t
+ran-state e = cc
+
+no-ran : {X : Type 0} {why : ℕ} {b : List ℕ} {s : State} → stopped why ≡ ran b s → X
+no-ran e = let z : _≡_ {A = ℕ} 0 1 = cc in absurd (omega arith)
+
+limit-same : (a b : State) → a .depth ≤ a .limits .depth → (n : ℕ) → Kept a b n → b .depth ≤ b .limits .depth
+limit-same a b d n k = rw (k .lims, k .deep) d
+
+past-one : (a : WriteAnswer) (x y : Ran) (b : List ℕ) (s : State) {z : Ran} → (x ≡ ran b s → y ≡ z) → goOn a x ≡ ran b s → goOn a y ≡ z
+past-one WA.Written x y b s h e = h e
+past-one (WA.Refused why) x y b s h e = no-ran e
+
+-- one row behind another
+run-append : (cs ds : List Step) (buf : List ℕ) (st : State) (b : List ℕ) (s : State) → run cs buf st ≡ ran b s → run (cs ++ ds) buf st ≡ run ds b s
+unfolding run
+run-append [] ds buf st b s e = let p : buf ≡ b = ran-buf e in let q : st ≡ s = ran-state e in ap₂ (λ (x : List ℕ) (y : State). run ds x y) p q
+run-append (c ∷ cs) ds buf st b s e = past-one (writes buf st (c st) .answer) _ _ b s (run-append cs ds (leaves buf st (c st)) (writes buf st (c st) .state) b s) e
+
+-- n bytes on, under the same limits, no deeper than they let it
+pub record Moved (a b : State) (n : ℕ) : Type 0 where
+  pub there : b .place .0 ≡ a .place .0 + n
+  pub lims : b .limits ≡ a .limits
+  pub fine : b .depth ≤ b .limits .depth
+
+pub moved : (a b : State) (n : ℕ) → a .depth ≤ a .limits .depth → Kept a b n → Moved a b n
+moved a b n d k = record { there = k .there; lims = k .lims; fine = limit-same a b d n k }
+
+pub runs-on : (cs ds : List Step) (bs es : List ℕ) (a b c : State) → Runs cs bs a b → (a .depth ≤ a .limits .depth → Moved a b (length bs)) → Runs ds es b c → Runs (cs ++ ds) (bs ++ es) a c
+unfolding Runs
+runs-on cs ds bs es a b c f mv g buf r d h =
+    let k = mv d in
+    let l = length-append bs es in
+    let first = f buf r d (omega arith) in
+    let m = length-put buf (a .place .0) bs in
+    let second = g (putAt buf (a .place .0) bs) (subst Ranged (sym (k .lims)) r) (k .fine) (omega (arith, k .there)) in
+    run-append cs ds buf a (putAt buf (a .place .0) bs) b first
+    ∙ second
+    ∙ ap (λ (x : List ℕ). ran x c) (ap (λ (p : ℕ). putAt (putAt buf (a .place .0) bs) p es) (k .there) ∙ put-put buf (a .place .0) bs es h)
+
+pub runs-then : (cs ds : List Step) (bs es : List ℕ) (a b c : State) → Runs cs bs a b → Kept a b (length bs) → Runs ds es b c → Runs (cs ++ ds) (bs ++ es) a c
+runs-then cs ds bs es a b c f k g = runs-on cs ds bs es a b c f (λ d. moved a b (length bs) d k) g
+
+-- one call
+pub runs-one : (c : Step) (wrong : ℕ) (bs : List ℕ) (st next : State) → c st ≡ call wrong bs next → wrong ≡ 0 → Runs (c ∷ []) bs st (movedTo next (st .place .0 + length bs))
+unfolding Runs run
+runs-one c wrong bs st next e z buf r d h =
+    let w = goes buf st wrong bs next (record { limits = r; here = omega arith; deep = d }) z h in
+    rw (e, w .answers, w .puts)
+
+-- no bool is pending, so what the arguments show decides
+free-turn : (st : State) (w : ℕ) → st .pending .0 ≡ A.Nothing → inTurn st w ≡ w
+unfolding inTurn orElse
+free-turn st w e = ap (λ (a : AwaitedField). orElse (turn a) w) e
+
+-- what writing a value gives
+pub record Wrote (cs : List Step) (bs : List ℕ) (st : State) : Type 0 where
+  pub next : State
+  pub runs : Runs cs bs st next
+  pub kept : Kept st next (length bs)
+  pub same-last : next .last ≡ st .last
+  pub free : next .pending .0 ≡ A.Nothing
+
+kept-place : (st : State) (n : ℕ) → Kept st (movedTo st (st .place .0 + n)) n
+kept-place st n = record { there = refl; deep = refl; lims = refl; long = refl; below = λ i h. refl }
+
+-- no byte
+put-none : (buf : List ℕ) (at : ℕ) → at ≤ length buf → putAt buf at [] ≡ buf
+unfolding putAt
+put-none buf at h = rw (le-ltb (length buf) (at + 0) (omega arith))
+
+-- a call that moves the place alone
+one-call : (c : Step) (wrong : ℕ) (bs : List ℕ) (st : State) → c st ≡ call (inTurn st wrong) bs st → wrong ≡ 0 → st .pending .0 ≡ A.Nothing → Wrote (c ∷ []) bs st
+one-call c wrong bs st e z f =
+    record {
+      next = movedTo st (st .place .0 + length bs);
+      runs = runs-one c (inTurn st wrong) bs st st e (free-turn st wrong f ∙ z);
+      kept = kept-place st (length bs);
+      same-last = refl;
+      free = f;
+    }
+
+-- one value behind another
+wrote-then : (cs ds : List Step) (bs es : List ℕ) (st : State) (f : Wrote cs bs st) → Wrote ds es (f .next) → Wrote (cs ++ ds) (bs ++ es) st
+wrote-then cs ds bs es st f g =
+    record {
+      next = g .next;
+      runs = runs-then cs ds bs es st (f .next) (g .next) (f .runs) (f .kept) (g .runs);
+      kept = subst (Kept st (g .next)) (sym (length-append bs es)) (kept-then st (f .next) (g .next) (length bs) (length es) (f .kept) (g .kept));
+      same-last = g .same-last ∙ f .same-last;
+      free = g .free;
+    }
+
+nothing-wrote : (st : State) → st .pending .0 ≡ A.Nothing → Wrote [] [] st
+unfolding Runs run
+nothing-wrote st f =
+    record {
+      next = st;
+      runs = λ buf r d h. ap (λ (b : List ℕ). ran b st) (sym (put-none buf (st .place .0) (omega arith)));
+      kept = record { there = omega arith; deep = refl; lims = refl; long = refl; below = λ i h. refl };
+      same-last = refl;
+      free = f;
+    }
+
+-- what the arguments show: nothing, within the limits
+stop-free : (t : TType) → 0 < typeCode t → eqb (typeCode t) 0 ≡ false
+stop-free t h = ne-eqb (typeCode t) 0 (λ e. omega arith)
+
+count-right : (lim : TConfiguration) (t u : TType) (n : ℕ) → n ≤ lim .container → (n ≡ 0 → ⊥) → 0 < typeCode t → 0 < typeCode u → countWrong lim t u (pos n) ≡ 0
+unfolding countWrong
+count-right lim t u n h z a b = rw (le-ltb n 0 (omega arith), ne-eqb n 0 z, stop-free t a, stop-free u b, le-leb n (lim .container) h)
+
+count-none : (lim : TConfiguration) (t u : TType) → countWrong lim t u (pos 0) ≡ 0
+unfolding countWrong
+count-none lim t u = refl
+
+length-right : (lim : TConfiguration) (bs : List ℕ) → length bs ≤ lim .string → lengthWrong lim bs ≡ 0
+unfolding lengthWrong
+length-right lim bs h = rw (le-leb (length bs) (lim .string) h)
+
+-- the header of a list or a set, and of a map
+all-right : (lim : TConfiguration) (ty : TType) (ts : Trees) → size ts ≤ lim .container → TypedAll ty ts → countWrong lim ty ty (pos (size ts)) ≡ 0
+unfolding size TypedAll
+all-right lim ty no-trees h y = count-none lim ty ty
+all-right lim ty (tree t ts) h y =
+    let p : 0 < typeCode ty = subst (λ (u : TType). 0 < typeCode u) (y .0) (no-stop t) in
+    count-right lim ty ty (suc (size ts)) h (λ z. omega arith) p p
+
+pairs-right : (lim : TConfiguration) (k v : TType) (ps : Pairs) → sizeP ps ≤ lim .container → TypedPairs k v ps → countWrong lim k v (pos (sizeP ps)) ≡ 0
+unfolding sizeP TypedPairs
+pairs-right lim k v no-pairs h y = count-none lim k v
+pairs-right lim k v (pair t u ps) h y =
+    count-right lim k v (suc (sizeP ps)) h (λ z. omega arith) (subst (λ (x : TType). 0 < typeCode x) (y .0) (no-stop t)) (subst (λ (x : TType). 0 < typeCode x) (y .1) (no-stop u))
+
+-- what writing a struct's fields gives: the last id is the last field's
+pub record Fielded (cs : List Step) (bs : List ℕ) (st : State) : Type 0 where
+  pub next : State
+  pub runs : Runs cs bs st next
+  pub kept : Kept st next (length bs)
+  pub free : next .pending .0 ≡ A.Nothing
+
+ended-fields : (st : State) → st .pending .0 ≡ A.Nothing → Fielded (stopCall ∷ []) (0 ∷ []) st
+ended-fields st f = let w = one-call stopCall 0 (0 ∷ []) st refl refl f in record { next = w .next; runs = w .runs; kept = w .kept; free = w .free }
+
+-- a row that leaves the ids, and then fields
+fields-on : (cs ds : List Step) (bs es : List ℕ) (a b : State) → Runs cs bs a b → Kept a b (length bs) → Fielded ds es b → Fielded (cs ++ ds) (bs ++ es) a
+fields-on cs ds bs es a b r k f =
+    record {
+      next = f .next;
+      runs = runs-then cs ds bs es a b (f .next) r k (f .runs);
+      kept = subst (Kept a (f .next)) (sym (length-append bs es)) (kept-then a b (f .next) (length bs) (length es) k (f .kept));
+      free = f .free;
+    }
+
+-- behind a field's header
+abbrev behind-header : State → ℤ → ℕ → State
+behind-header st id n = movedTo (headed st (idOf id)) (st .place .0 + n)
+
+kept-header : (st : State) (id : ℤ) (n : ℕ) → Kept st (behind-header st id n) n
+kept-header st id n = record { there = refl; deep = refl; lims = refl; long = refl; below = λ i h. refl }
+
+-- a bool field: its header is written by the bool call
+bool-field : (st : State) (id : ℤ) (b : Bool) → st .pending .0 ≡ A.Nothing → (bs : List ℕ) → bs ≡ fieldBytes (st .last .0) id (truthCode b) → Runs ((λ s. fieldCall s T.Bool (idOf id)) ∷ ((λ s. boolCall s b) ∷ [])) bs st (movedTo (headed (movedTo (awaiting st (idOf id)) (st .place .0 + 0)) (idOf id)) (st .place .0 + 0 + length bs))
+unfolding fieldCall fieldWrong typeCode boolCall
+bool-field st id b f bs e =
+    runs-on ((λ s. fieldCall s T.Bool (idOf id)) ∷ []) ((λ s. boolCall s b) ∷ []) [] bs st (movedTo (awaiting st (idOf id)) (st .place .0 + 0)) _
+    (runs-one (λ s. fieldCall s T.Bool (idOf id)) (inTurn st 0) [] st (awaiting st (idOf id)) refl (free-turn st 0 f))
+    (λ d. record { there = refl; lims = refl; fine = d })
+    (runs-one (λ s. boolCall s b) 0 bs (movedTo (awaiting st (idOf id)) (st .place .0 + 0)) (headed (movedTo (awaiting st (idOf id)) (st .place .0 + 0)) (idOf id)) (ap (λ (x : List ℕ). call 0 x (headed (movedTo (awaiting st (idOf id)) (st .place .0 + 0)) (idOf id))) (sym e)) refl)
+
+field-is : (st : State) (id : ℤ) (t : TType) → 2 < typeCode t → fieldCall st t (idOf id) ≡ call (inTurn st (fieldWrong t)) (fieldBytes (st .last .0) id (typeCode t)) (headed st (idOf id))
+unfolding fieldCall
+field-is st id t k = rw (ne-eqb (typeCode t) 1 (λ e. omega arith))
+
+field-right : (t : TType) → 2 < typeCode t → fieldWrong t ≡ 0
+unfolding fieldWrong
+field-right t k = rw (stop-free t (omega arith))
+
+-- a field of another type: its header, behind which its value is written
+value-field : (st : State) (id : ℤ) (t : TType) → st .pending .0 ≡ A.Nothing → 2 < typeCode t → Runs ((λ s. fieldCall s t (idOf id)) ∷ []) (fieldBytes (st .last .0) id (typeCode t)) st (behind-header st id (length (fieldBytes (st .last .0) id (typeCode t))))
+value-field st id t f k =
+    runs-one (λ s. fieldCall s t (idOf id)) (inTurn st (fieldWrong t)) (fieldBytes (st .last .0) id (typeCode t)) st (headed st (idOf id)) (field-is st id t k) (free-turn st (fieldWrong t) f ∙ field-right t k)
+
+-- a struct: begin, its fields and the stop, end
+module _ (st : State) (fs : List Step) (bs : List ℕ) (f : st .pending .0 ≡ A.Nothing) (d : st .depth < st .limits .depth) (l : st .depth < length (st .ids)) where
+  abbrev inside : State
+  inside = movedTo (entered st) (st .place .0 + 0)
+
+  begin-right : inTurn st (beginWrong st) ≡ 0
+  unfolding beginWrong
+  begin-right = free-turn st (beginWrong st) f ∙ rw (lt-leb (st .limits .depth) (st .depth) d)
+
+  module _ (w : Fielded fs bs inside) where
+    abbrev last-in : State
+    last-in = w .next
+
+    one-down : last-in .depth ≡ st .depth + 1
+    one-down = w .kept .deep
+
+    end-right : inTurn last-in (endWrong last-in) ≡ 0
+    unfolding endWrong
+    end-right = free-turn last-in (endWrong last-in) (w .free) ∙ rw (ne-eqb (last-in .depth) 0 (λ e. omega (arith, one-down)))
+
+    abbrev outside : State
+    outside = movedTo (ended last-in) (last-in .place .0 + 0)
+
+    up-again : last-in .depth - 1 ≡ st .depth
+    up-again = omega (arith, one-down)
+
+    struct-runs : Runs (structBeginCall ∷ (fs ++ (structEndCall ∷ []))) bs st outside
+    struct-runs =
+        subst (λ (x : List ℕ). Runs (structBeginCall ∷ (fs ++ (structEndCall ∷ []))) x st outside) (append-nil bs)
+        (runs-on (structBeginCall ∷ []) (fs ++ (structEndCall ∷ [])) [] (bs ++ []) st inside outside
+        (runs-one structBeginCall (inTurn st (beginWrong st)) [] st (entered st) refl begin-right)
+        (λ x. record { there = refl; lims = refl; fine = omega arith })
+        (runs-on fs (structEndCall ∷ []) bs [] inside last-in outside (w .runs) (λ x. moved inside last-in (length bs) x (w .kept))
+        (runs-one structEndCall (inTurn last-in (endWrong last-in)) [] last-in (ended last-in) refl end-right)))
+
+    saved : getD (last-in .ids) (last-in .depth - 1) (pos 0) ≡ st .last .0
+    saved =
+        ap (λ (i : ℕ). getD (last-in .ids) i (pos 0)) up-again
+        ∙ w .kept .below (st .depth) (omega arith)
+        ∙ getD-set-same (st .ids) (st .depth) (st .last .0) (pos 0) l
+
+    struct-kept : Kept st outside (length bs)
+    struct-kept =
+        record {
+          there = omega (arith, w .kept .there);
+          deep = up-again;
+          lims = w .kept .lims;
+          long = w .kept .long ∙ length-set (st .ids) (st .depth) (st .last .0);
+          below = λ i h. w .kept .below i (omega arith) ∙ getD-set-other (st .ids) (st .depth) i (st .last .0) (pos 0) (λ e. omega arith);
+        }
+
+    pub struct-wrote : Wrote (structBeginCall ∷ (fs ++ (structEndCall ∷ []))) bs st
+    struct-wrote =
+        record {
+          next = outside;
+          runs = struct-runs;
+          kept = struct-kept;
+          same-last = ap idOf saved;
+          free = w .free;
+        }
+
+-- one field and those behind it
+field-wrote : (st : State) (last id : ℤ) (t : Tree) (fs : Fields) → st .last .0 ≡ last → st .pending .0 ≡ A.Nothing → InField t → ((b : State) → Kept st b (length (fieldBytes last id (fieldCode t))) → b .last .0 ≡ id → b .pending .0 ≡ A.Nothing → Wrote (writeOf t) (bytesOf t) b) → ((b : State) (n : ℕ) → Kept st b n → b .last .0 ≡ id → b .pending .0 ≡ A.Nothing → Fielded (writeFields fs) (bytesOfFields id fs) b) → Fielded (writeFields (val.field id t fs)) (bytesOfFields last (val.field id t fs)) st
+unfolding writeOf writeFields bytesOfFields typeOf
+field-wrote st last id t fs e f (truthful b q) wv wf =
+    let bs : List ℕ = fieldBytes last id (truthCode b) in
+    let mid : State = movedTo (headed (movedTo (awaiting st (idOf id)) (st .place .0 + 0)) (idOf id)) (st .place .0 + 0 + length bs) in
+    let k : Kept st mid (length bs) = record { there = omega arith; deep = refl; lims = refl; long = refl; below = λ i h. refl } in
+    rw q
+    (fields-on ((λ s. fieldCall s T.Bool (idOf id)) ∷ ((λ s. boolCall s b) ∷ [])) (writeFields fs) bs (bytesOfFields id fs) st mid
+    (bool-field st id b f bs (ap (λ (z : ℤ). fieldBytes z id (truthCode b)) (sym e))) k (wf mid (length bs) k refl refl))
+field-wrote st last id t fs e f (valued n c k) wv wf =
+    let bs : List ℕ = fieldBytes last id (typeCode (typeOf t)) in
+    let mid : State = behind-header st id (length bs) in
+    let km : Kept st mid (length bs) = kept-header st id (length bs) in
+    let v = wv mid (rw c km) refl refl in
+    let kv = kept-then st mid (v .next) (length bs) (length (bytesOf t)) km (v .kept) in
+    let r : Runs ((λ s. fieldCall s (typeOf t) (idOf id)) ∷ []) bs st mid = subst (λ (z : ℤ). Runs ((λ s. fieldCall s (typeOf t) (idOf id)) ∷ []) (fieldBytes z id (typeCode (typeOf t))) st (behind-header st id (length (fieldBytes z id (typeCode (typeOf t)))))) e (value-field st id (typeOf t) f k) in
+    rw (n, c)
+    (fields-on ((λ s. fieldCall s (typeOf t) (idOf id)) ∷ []) (writeOf t ++ writeFields fs) bs (bytesOf t ++ bytesOfFields id fs) st mid r km
+    (fields-on (writeOf t) (writeFields fs) (bytesOf t) (bytesOfFields id fs) mid (v .next) (v .runs) (v .kept)
+    (wf (v .next) (length bs + length (bytesOf t)) kv (ap (λ (x : FieldId). x .0) (v .same-last)) (v .free))))
+
+element-is : (st : State) (b : Bool) → st .pending .0 ≡ A.Nothing → boolCall st b ≡ call 0 (truthCode b ∷ []) st
+unfolding boolCall
+element-is st b f = ap (truthCall st b) f
+
+-- by recursion on the tree: the writer stands in `depth` structs, under these limits, with nothing pending
+pub record Ready (lim : TConfiguration) (depth : ℕ) (st : State) : Type 0 where
+  pub lims : st .limits ≡ lim
+  pub deep : st .depth ≡ depth
+  pub ids : length (st .ids) ≡ 64
+  pub free : st .pending .0 ≡ A.Nothing
+
+ready-on : (lim : TConfiguration) (depth : ℕ) (a b : State) (n : ℕ) → Ready lim depth a → Kept a b n → b .pending .0 ≡ A.Nothing → Ready lim depth b
+ready-on lim depth a b n r k f = record { lims = k .lims ∙ r .lims; deep = k .deep ∙ r .deep; ids = k .long ∙ r .ids; free = f }
+
+module _ (lim : TConfiguration) (ok : Ranged lim) where
+  element-wrote : (st : State) (b : Bool) → st .pending .0 ≡ A.Nothing → Wrote ((λ x. boolCall x b) ∷ []) (truthCode b ∷ []) st
+  element-wrote st b f =
+      record {
+        next = movedTo st (st .place .0 + 1);
+        runs = runs-one (λ x. boolCall x b) 0 (truthCode b ∷ []) st st (element-is st b f) refl;
+        kept = kept-place st 1;
+        same-last = refl;
+        free = f;
+      }
+
+  items-wrote : (ty : TType) (ts : Trees) (depth : ℕ) (st : State) → Ready lim depth st → size ts ≤ lim .container → TypedAll ty ts → ((b : State) → Ready lim depth b → Wrote (writeAll ts) (bytesOfAll ts) b) → Wrote ((λ x. itemsCall x ty (pos (size ts))) ∷ writeAll ts) (itemsBytes ty (size ts) ++ bytesOfAll ts) st
+  items-wrote ty ts depth st r h y k =
+      let f = one-call (λ x. itemsCall x ty (pos (size ts))) (countWrong (st .limits) ty ty (pos (size ts))) (itemsBytes ty (size ts)) st refl (all-right (st .limits) ty ts (rw (r .lims) h) y) (r .free) in
+      wrote-then ((λ x. itemsCall x ty (pos (size ts))) ∷ []) (writeAll ts) (itemsBytes ty (size ts)) (bytesOfAll ts) st f (k (f .next) (ready-on lim depth st (f .next) _ r (f .kept) (f .free)))
+
+  map-wrote : (k v : TType) (ps : Pairs) (depth : ℕ) (st : State) → Ready lim depth st → sizeP ps ≤ lim .container → TypedPairs k v ps → ((b : State) → Ready lim depth b → Wrote (writePairs ps) (bytesOfPairs ps) b) → Wrote ((λ x. pairsCall x k v (pos (sizeP ps))) ∷ writePairs ps) (pairsBytes k v (sizeP ps) ++ bytesOfPairs ps) st
+  map-wrote k v ps depth st r h y on =
+      let f = one-call (λ x. pairsCall x k v (pos (sizeP ps))) (countWrong (st .limits) k v (pos (sizeP ps))) (pairsBytes k v (sizeP ps)) st refl (pairs-right (st .limits) k v ps (rw (r .lims) h) y) (r .free) in
+      wrote-then ((λ x. pairsCall x k v (pos (sizeP ps))) ∷ []) (writePairs ps) (pairsBytes k v (sizeP ps)) (bytesOfPairs ps) st f (on (f .next) (ready-on lim depth st (f .next) _ r (f .kept) (f .free)))
+
+  under : (st : State) (depth : ℕ) → Ready lim depth st → depth < lim .depth → st .depth < st .limits .depth
+  under st depth r h = rw (r .lims, r .deep) h
+
+  in-ids : (st : State) (depth : ℕ) → Ready lim depth st → depth < lim .depth → st .depth < length (st .ids)
+  in-ids st depth r h = rw (r .ids, r .deep) (omega (arith, ok .deep))
+
+  ready-in : (st : State) (depth : ℕ) → Ready lim depth st → Ready lim (suc depth) (movedTo (entered st) (st .place .0 + 0))
+  ready-in st depth r = record { lims = r .lims; deep = omega (arith, r .deep); ids = length-set (st .ids) (st .depth) (st .last .0) ∙ r .ids; free = r .free }
+
+  mutual
+    unfolding nesting nestingAll nestingPairs nestingFields Sized SizedAll SizedPairs SizedFields Typed TypedAll TypedPairs TypedFields writeOf writeAll writePairs writeFields bytesOf bytesOfAll bytesOfPairs bytesOfFields
+
+    pub wrote : (t : Tree) (depth : ℕ) (st : State) → Ready lim depth st → depth + nesting t ≤ lim .depth → Sized lim t → Typed t → Wrote (writeOf t) (bytesOf t) st
+    wrote (val.truth b) depth st r n s y = element-wrote st b (r .free)
+    wrote (val.i8 z) depth st r n s y = one-call (λ x. i8Call x z) 0 _ st refl refl (r .free)
+    wrote (val.i16 z) depth st r n s y = one-call (λ x. intCall x z) 0 _ st refl refl (r .free)
+    wrote (val.i32 z) depth st r n s y = one-call (λ x. intCall x z) 0 _ st refl refl (r .free)
+    wrote (val.i64 z) depth st r n s y = one-call (λ x. intCall x z) 0 _ st refl refl (r .free)
+    wrote (val.double d) depth st r n s y = one-call (λ x. doubleCall x d) 0 _ st refl refl (r .free)
+    wrote (val.uuid u) depth st r n s y = one-call (λ x. uuidCall x u) 0 _ st refl refl (r .free)
+    wrote (val.bytes cs) depth st r n s y = one-call (λ x. bytesCall x cs) (lengthWrong (st .limits) cs) _ st refl (length-right (st .limits) cs (rw (r .lims) s)) (r .free)
+    wrote (val.list t ts) depth st r n s y = items-wrote t ts depth st r (s .0) y (λ b k. wrote-all t ts depth b k (omega arith) (s .1) y)
+    wrote (val.set t ts) depth st r n s y = items-wrote t ts depth st r (s .0) y (λ b k. wrote-all t ts depth b k (omega arith) (s .1) y)
+    wrote (val.map k v ps) depth st r n s y = map-wrote k v ps depth st r (s .0) y (λ b q. wrote-pairs k v ps depth b q (omega arith) (s .1) y)
+    wrote (val.struct fs) depth st r n s y =
+        struct-wrote st (writeFields fs) (bytesOfFields (pos 0) fs) (r .free) (under st depth r (omega arith)) (in-ids st depth r (omega arith))
+        (wrote-fields fs (suc depth) (movedTo (entered st) (st .place .0 + 0)) (pos 0) (ready-in st depth r) refl (omega arith) s y)
+
+    wrote-all : (ty : TType) (ts : Trees) (depth : ℕ) (st : State) → Ready lim depth st → depth + nestingAll ts ≤ lim .depth → SizedAll lim ts → TypedAll ty ts → Wrote (writeAll ts) (bytesOfAll ts) st
+    wrote-all ty no-trees depth st r n s y = nothing-wrote st (r .free)
+    wrote-all ty (tree t ts) depth st r n s y =
+        let f = wrote t depth st r (omega arith) (s .0) (y .1) in
+        wrote-then (writeOf t) (writeAll ts) (bytesOf t) (bytesOfAll ts) st f (wrote-all ty ts depth (f .next) (ready-on lim depth st (f .next) _ r (f .kept) (f .free)) (omega arith) (s .1) (y .2))
+
+    wrote-pairs : (k v : TType) (ps : Pairs) (depth : ℕ) (st : State) → Ready lim depth st → depth + nestingPairs ps ≤ lim .depth → SizedPairs lim ps → TypedPairs k v ps → Wrote (writePairs ps) (bytesOfPairs ps) st
+    wrote-pairs k v no-pairs depth st r n s y = nothing-wrote st (r .free)
+    wrote-pairs k v (pair t u ps) depth st r n s y =
+        let f = wrote t depth st r (omega arith) (s .0) (y .2) in
+        let rf = ready-on lim depth st (f .next) _ r (f .kept) (f .free) in
+        let g = wrote u depth (f .next) rf (omega arith) (s .1) (y .3) in
+        let rg = ready-on lim depth (f .next) (g .next) _ rf (g .kept) (g .free) in
+        wrote-then (writeOf t) (writeOf u ++ writePairs ps) (bytesOf t) (bytesOf u ++ bytesOfPairs ps) st f
+        (wrote-then (writeOf u) (writePairs ps) (bytesOf u) (bytesOfPairs ps) (f .next) g (wrote-pairs k v ps depth (g .next) rg (omega arith) (s .2) (y .4)))
+
+    wrote-fields : (fs : Fields) (depth : ℕ) (st : State) (last : ℤ) → Ready lim depth st → st .last .0 ≡ last → depth + nestingFields fs ≤ lim .depth → SizedFields lim fs → TypedFields fs → Fielded (writeFields fs) (bytesOfFields last fs) st
+    wrote-fields no-fields depth st last r e n s y = ended-fields st (r .free)
+    wrote-fields (val.field id t fs) depth st last r e n s y =
+        field-wrote st last id t fs e (r .free) (in-field t)
+        (λ b k q p. wrote t depth b (ready-on lim depth st b _ r k p) (omega arith) (s .0) (y .1))
+        (λ b m k q p. wrote-fields fs depth b id (ready-on lim depth st b m r k p) q (omega arith) (s .1) (y .2))
