@@ -325,11 +325,11 @@ head-later s last p x e f =
 
 -- a field's header, as it was read
 module _ (s : List ℕ) (last : ℤ) (p : ℕ) (h : FieldHead) (e : h ≡ fieldAt s last p) where
-  head-refused : (why : ℕ) → h ≡ F.Refused why → readAt (field last) s p ≡ refused why
+  pub head-refused : (why : ℕ) → h ≡ F.Refused why → readAt (field last) s p ≡ refused why
   unfolding fieldAt
   head-refused why g = is-field (readAt (field last) s p) h (sym e) why g
 
-  head-read : (x : Field) (q : Place) → h ≡ toField (got x (q .0)) → readAt (field last) s p ≡ got x (q .0)
+  pub head-read : (x : Field) (q : Place) → h ≡ toField (got x (q .0)) → readAt (field last) s p ≡ got x (q .0)
   unfolding fieldAt
   head-read x q g = same-field (readAt (field last) s p) x (q .0) (sym e ∙ g)
 

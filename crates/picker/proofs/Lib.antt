@@ -1,0 +1,5 @@
+pub mod Cases
+pub mod Walk
+pub mod Noted
+pub mod Rows
+pub mod Call

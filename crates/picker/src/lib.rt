@@ -1,0 +1,239 @@
+// The picker: one walk that says for each wanted field id where the last field of that id and type has its value, whatever else stands in the struct.
+// The struct is walked twice: first skip accepts or refuses it, so that nothing is written before a refusal; then its own fields are noted in
+// the rows. Fields of inner structs are passed over with the value that holds them.
+ghost use mathlib.Core.Path.{_≡_};
+ghost use mathlib.Core.Bool.{cond};
+ghost use mathlib.Core.List.{List};
+ghost use Prim.Native.Nat.{ℕ, _+_, _*_, _≤_, _<_};
+ghost use lib.ListN.{length};
+ghost use lib.IntN.{pos};
+ghost use Rattle.types.specs.Value.{Tree, truth};
+ghost use Rattle.numbers.specs.Varint.{got};
+ghost use Rattle.heads.specs.Reader.{readAt};
+ghost use Rattle.input.specs.Outcome.{declines};
+ghost use Rattle.input.specs.Answers.{asDone};
+ghost use Rattle.skip.specs.Walk.{Entry, fields};
+ghost use Rattle.skip.specs.Value.{valueOf};
+ghost use Rattle.picker.specs.Pick.{onStruct, forgets, written, pickCall, pickedRows};
+ghost use Rattle.picker.specs.Notes.{putRow, noteRow, note, noteAll, clear};
+use heads::FieldHead;
+use input::DoneAnswer;
+use input::ReadDone;
+use input::TCompactInputProtocol;
+use skip::Skipped;
+use types::FieldId;
+use types::Place;
+use types::TConfiguration;
+use types::TType;
+
+// The kinds of answer: what stands first in a row.
+pub const ABSENT: usize = 0;
+
+pub const WRONG_TYPE: usize = 1;
+
+pub const HERE: usize = 2;
+
+pub const FALSE: usize = 3;
+
+pub const TRUE: usize = 4;
+
+fn put_row(rows: &mut [usize], j: usize, kind: usize, start: usize, end: usize)
+    requires { ⌜ 3 * j + 3 ≤ length (now rows) ⌝ }
+    ensures { λ _. ⌜ now (rows .exit) ≡ putRow j (record { kind = kind; start = start; end = end }) (now (rows .entry)) ⌝ }
+{
+    rows[3 * j] = kind;
+    rows[3 * j + 1] = start;
+    rows[3 * j + 2] = end;
+}
+
+fn clear_rows(rows: &mut [usize], n: usize)
+    requires { ⌜ 3 * n ≤ length (now rows) ⌝ }
+    ensures { λ _. ⌜ now (rows .exit) ≡ clear n 0 (now (rows .entry)) ⌝ }
+{
+    let mut j: usize = 0;
+    while j < n {
+        put_row(rows, j, ABSENT, 0, 0);
+        j = j + 1;
+    }
+}
+
+// A field that has the id (`mine`) and the type (`same`) wanted in row j, or not. A wrong type is noted only where nothing else was.
+fn note_row(
+    rows: &mut [usize],
+    j: usize,
+    mine: bool,
+    same: bool,
+    kind: usize,
+    start: usize,
+    end: usize,
+)
+    requires { ⌜ 3 * j + 3 ≤ length (now rows) ⌝ }
+    ensures { λ _. ⌜ now (rows .exit) ≡ noteRow mine same (record { kind = kind; start = start; end = end }) j (now (rows .entry)) ⌝ }
+{
+    if mine {
+        if same {
+            put_row(rows, j, kind, start, end);
+            return;
+        }
+        if rows[3 * j] == ABSENT {
+            put_row(rows, j, WRONG_TYPE, 0, 0);
+            return;
+        }
+        return;
+    }
+}
+
+// A field of the struct, noted in the row of its id, if that is wanted.
+fn note_field(
+    ids: &[i16],
+    kinds: &[u8],
+    rows: &mut [usize],
+    id: FieldId,
+    code: u8,
+    kind: usize,
+    start: usize,
+    end: usize,
+)
+    requires { ⌜ (length (now kinds) ≡ length (now ids)) × (3 * length (now ids) ≤ length (now rows)) ⌝ }
+    ensures { λ _. ⌜ now (rows .exit) ≡ note (id .0) code (record { kind = kind; start = start; end = end }) (now (ids .entry)) (now (kinds .entry)) 0 (now (rows .entry)) ⌝ }
+{
+    let mut j: usize = 0;
+    while j < ids.len() {
+        let mine = wanted::same_id(id, FieldId(ids[j]));
+        note_row(rows, j, mine, code == kinds[j], kind, start, end);
+        j = j + 1;
+    }
+}
+
+fn truth_kind(truth: bool) -> usize
+    ensures { λ r. ⌜ r ≡ cond truth 4 3 ⌝ }
+{
+    if truth {
+        return TRUE;
+    }
+    FALSE
+}
+
+// The fields directly in a struct, each noted as the walk finds it.
+fn note_struct(
+    s: &[u8],
+    at: Place,
+    room: usize,
+    limits: TConfiguration,
+    ids: &[i16],
+    kinds: &[u8],
+    rows: &mut [usize],
+)
+    requires { ⌜ (length (now kinds) ≡ length (now ids)) × (3 * length (now ids) ≤ length (now rows)) ⌝ }
+    ensures { λ _. ⌜ ((fs : List (Entry Tree)) (e : ℕ) → readAt (fields truth (valueOf limits room) (pos 0)) (now (s .entry)) (at .0) ≡ got fs e → now (rows .exit) ≡ noteAll (now (ids .entry)) (now (kinds .entry)) fs (at .0) (now (rows .entry))) ⌝ }
+{
+    let mut p = at;
+    let mut last = FieldId(0);
+    loop {
+        match heads::read_field_begin(s, p, last) {
+            FieldHead::Stop(_) => {
+                return;
+            }
+            FieldHead::Refused(_) => {
+                return;
+            }
+            FieldHead::Bool(b, id, next) => {
+                note_field(ids, kinds, rows, id, 1, truth_kind(b), 0, 0);
+                last = id;
+                p = next;
+            }
+            FieldHead::Value(kind, id, next) => match skip::skip_value(
+                s,
+                next,
+                kind,
+                room,
+                limits,
+            ) {
+                Skipped::Refused(_) => {
+                    return;
+                }
+                Skipped::Done(e) => {
+                    note_field(
+                        ids,
+                        kinds,
+                        rows,
+                        id,
+                        types::type_to_u8(kind),
+                        HERE,
+                        next.0,
+                        e.0,
+                    );
+                    last = id;
+                    p = e;
+                }
+            },
+        }
+    }
+}
+
+fn refuse(why: u8, state: TCompactInputProtocol) -> ReadDone
+    ensures { λ r. ⌜ r ≡ asDone (declines why state) ⌝ }
+{
+    ReadDone {
+        answer: DoneAnswer::Refused(why),
+        state,
+    }
+}
+
+// From the reader's place on, where the list and the room have passed.
+fn pick_on(
+    state: TCompactInputProtocol,
+    s: &[u8],
+    ids: &[i16],
+    kinds: &[u8],
+    rows: &mut [usize],
+) -> ReadDone
+    requires { ⌜ (length (now kinds) ≡ length (now ids)) × (3 * length (now ids) ≤ length (now rows)) × (state .depth < state .limits .depth) ⌝ }
+    ensures { λ r. ⌜ (r ≡ asDone (forgets (onStruct (now (s .entry)) state))) × (now (rows .exit) ≡ written (now (ids .entry)) (now (kinds .entry)) (state .place .0) (onStruct (now (s .entry)) state .said) (now (rows .entry))) ⌝ }
+{
+    let room = state.limits.depth - state.depth;
+    match skip::skip_value(s, state.place, TType::Struct, room, state.limits) {
+        Skipped::Refused(why) => ReadDone {
+            answer: DoneAnswer::Refused(why),
+            state,
+        },
+        Skipped::Done(end) => {
+            clear_rows(rows, ids.len());
+            note_struct(s, state.place, room - 1, state.limits, ids, kinds, rows);
+            let mut next = state;
+            next.place = end;
+            ReadDone {
+                answer: DoneAnswer::Done,
+                state: next,
+            }
+        }
+    }
+}
+
+// For each wanted id, with its type by number, the row kind, start, end: where the last field of that id and type directly in the struct at the
+// reader's place has its value. The reader moves behind the struct, as skip of it does.
+pub fn pick(
+    state: TCompactInputProtocol,
+    s: &[u8],
+    ids: &[i16],
+    kinds: &[u8],
+    rows: &mut [usize],
+) -> ReadDone
+    ensures answer { λ r. ⌜ r ≡ pickCall (now (ids .entry)) (now (kinds .entry)) (length (now (rows .entry))) (now (s .entry)) state ⌝ }
+    ensures rows { λ r. ⌜ now (rows .exit) ≡ pickedRows (now (ids .entry)) (now (kinds .entry)) (now (s .entry)) state (now (rows .entry)) ⌝ }
+{
+    let why = state.refusal(s.len());
+    if why != 0 {
+        return refuse(why, state);
+    }
+    if wanted::is_listed(ids, kinds) {
+        if state.depth < state.limits.depth {
+            if 3 * ids.len() <= rows.len() {
+                return pick_on(state, s, ids, kinds, rows);
+            }
+            return refuse(types::NO_ROOM, state);
+        }
+        return refuse(types::DEPTH, state);
+    }
+    refuse(types::BAD_LIST, state)
+}
