@@ -3,3 +3,5 @@ pub mod Walk
 pub mod Noted
 pub mod Rows
 pub mod Call
+pub mod Laws
+pub mod Went
