@@ -58,24 +58,38 @@ clear-whole n rows = let e : n - 0 ≡ n = omega arith in ap (λ (k : ℕ). clea
 
 pub ruleset clear-cases = (clear-on, clear-end, clear-whole, same-put)
 
+-- gives_way
+module _ (before : ℕ) (same : Bool) where
+  pub way-same : same ≡ true → true ≡ cond same true (eqb before 0)
+  way-same e = rw e
+
+  pub way-other : same ≡ false → eqb before 0 ≡ cond same true (eqb before 0)
+  way-other e = rw e
+
+pub ruleset way-cases = (way-same, way-other)
+
 -- note_row
 module _ (mine same : Bool) (r : Row) (j : ℕ) (rows : List ℕ) where
   pub not-mine : mine ≡ false → rows ≡ noteRow mine same r j rows
   unfolding noteRow
   not-mine e = rw e
 
-  pub not-first : mine ≡ true → same ≡ false → (getD rows (3 * j) 0 ≡ 0 → ⊥) → rows ≡ noteRow mine same r j rows
+  module _ (b : Bool) (f : b ≡ cond same true (eqb (getD rows (3 * j) 0) 0)) where
+    pub not-first : mine ≡ true → b ≡ false → rows ≡ noteRow mine same r j rows
+    unfolding noteRow
+    not-first e n = rw e (go same (sym f ∙ n))
+      where
+        go : (x : Bool) → cond x true (eqb (getD rows (3 * j) 0) 0) ≡ false → rows ≡ cond x (putRow j r rows) (cond (eqb (getD rows (3 * j) 0) 0) (putRow j (kindAlone 1) rows) rows)
+        go true q = let z : _≡_ {A = ℕ} 0 1 = cc in absurd (omega arith)
+        go false q = rw q
+
+    pub wrong-type : (rows′ : List ℕ) → mine ≡ true → b ≡ true → same ≡ false → rows′ ≡ putRow j (row 1 0 0) rows → rows′ ≡ noteRow mine same r j rows
+    unfolding noteRow
+    wrong-type rows′ e n s p = let q : eqb (getD rows (3 * j) 0) 0 ≡ true = rw s at (sym f ∙ n) in rw (e, s, q) p
+
+  pub right-type : (rows′ : List ℕ) → mine ≡ true → same ≡ true → rows′ ≡ putRow j r rows → rows′ ≡ noteRow mine same r j rows
   unfolding noteRow
-  not-first e f n = rw (e, f, ne-eqb (getD rows (3 * j) 0) 0 n)
-
-  module _ (rows′ : List ℕ) where
-    pub right-type : mine ≡ true → same ≡ true → rows′ ≡ putRow j r rows → rows′ ≡ noteRow mine same r j rows
-    unfolding noteRow
-    right-type e f p = rw (e, f) p
-
-    pub wrong-type : mine ≡ true → same ≡ false → getD rows (3 * j) 0 ≡ 0 → rows′ ≡ putRow j (row 1 0 0) rows → rows′ ≡ noteRow mine same r j rows
-    unfolding noteRow
-    wrong-type e f n p = rw (e, f, eq-eqb (getD rows (3 * j) 0) 0 n) p
+  right-type rows′ e f p = rw (e, f) p
 
 pub ruleset note-row-cases = (not-mine, not-first, right-type, wrong-type)
 

@@ -2,9 +2,10 @@
 // The struct is walked twice: first skip accepts or refuses it, so that nothing is written before a refusal; then its own fields are noted in
 // the rows. Fields of inner structs are passed over with the value that holds them.
 ghost use mathlib.Core.Path.{_≡_};
-ghost use mathlib.Core.Bool.{cond};
+ghost use mathlib.Core.Bool.{true, cond};
 ghost use mathlib.Core.List.{List};
 ghost use Prim.Native.Nat.{ℕ, _+_, _*_, _≤_, _<_};
+ghost use lib.Dec.{eqb};
 ghost use lib.ListN.{length};
 ghost use lib.IntN.{pos};
 ghost use Rattle.types.specs.Value.{Tree, truth};
@@ -57,7 +58,18 @@ fn clear_rows(rows: &mut [usize], n: usize)
     }
 }
 
-// A field that has the id (`mine`) and the type (`same`) wanted in row j, or not. A wrong type is noted only where nothing else was.
+// Whether what a row says gives way to a field of its id: to one of the wanted type always, so that the last of them stays; to one of another type
+// only where nothing was said.
+fn gives_way(before: usize, same: bool) -> bool
+    ensures { λ r. ⌜ r ≡ cond same true (eqb before 0) ⌝ }
+{
+    if same {
+        return true;
+    }
+    before == ABSENT
+}
+
+// A field that has the id (`mine`) and the type (`same`) wanted in row j, or not.
 fn note_row(
     rows: &mut [usize],
     j: usize,
@@ -71,11 +83,11 @@ fn note_row(
     ensures { λ _. ⌜ now (rows .exit) ≡ noteRow mine same (record { kind = kind; start = start; end = end }) j (now (rows .entry)) ⌝ }
 {
     if mine {
-        if same {
-            put_row(rows, j, kind, start, end);
-            return;
-        }
-        if rows[3 * j] == ABSENT {
+        if gives_way(rows[3 * j], same) {
+            if same {
+                put_row(rows, j, kind, start, end);
+                return;
+            }
             put_row(rows, j, WRONG_TYPE, 0, 0);
             return;
         }

@@ -315,7 +315,7 @@ read-inside p lp s at a e f =
     let i = lp .ends (drop at s) a (g .0) (g .1) in
     (omega (arith, g .2), λ h. omega (arith, g .2, length-drop at s))
 
-head-later : (s : List ℕ) (last : ℤ) (p : ℕ) (x : Field) (e : ℕ) → readAt (field last) s p ≡ got x e → (p < e) × (e ≤ length s)
+pub head-later : (s : List ℕ) (last : ℤ) (p : ℕ) (x : Field) (e : ℕ) → readAt (field last) s p ≡ got x e → (p < e) × (e ≤ length s)
 unfolding readAt
 head-later s last p x e f =
     let g = found-at p (field last (drop p s)) x e f in
