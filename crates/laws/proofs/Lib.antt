@@ -1,8 +1,10 @@
 pub mod Table
 pub mod Spelt
 pub mod Back
+pub mod Readable
 pub mod Writing
 pub mod Texts
 pub mod Reading
 pub mod Formed
 pub mod RoundTrip
+pub mod Samples

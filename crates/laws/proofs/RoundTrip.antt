@@ -1,12 +1,12 @@
 -- Written and read is the same: a value within the limits, written by the calls and then read by the calls, is the same to the bit, the types of
 -- empty maps excepted. The reader stands just behind the writer's bytes, where skip ends too; on both sides the last id, the depth and the ids
 -- below the depth are as they were. Assumes nothing.
-use mathlib.Core.Path.{_≡_, refl, sym, ap, _∙_}
+use mathlib.Core.Path.{_≡_, refl, sym, ap, ap₂, _∙_}
 use mathlib.Core.List.{List, _++_}
 use Prim.Native.Nat.{ℕ, _+_, _-_, _≤_}
 use native.Mathlib.Omega.{arith}
 use lib.ListN.{length, take, drop, take-append-drop}
-use lib.Seq.{take-at, take-take, length-take-le}
+use lib.Seq.{take-at, take-length, take-take, length-take-le}
 use lib.IntN.{pos}
 use Rattle.types.specs.declared.TMessageType.{TMessageType}
 use Rattle.types.specs.declared.SeqNo.{SeqNo}
@@ -23,7 +23,7 @@ use Rattle.heads.specs.Reader.{readAt}
 use Rattle.heads.specs.Heads.{message}
 use Rattle.heads.specs.Answers.{place, idOf}
 use Rattle.input.specs.State as input
-use Rattle.output.specs.State.{State}
+use Rattle.output.specs.State.{State, begun}
 use Rattle.output.specs.Bytes.{messageBytes}
 use Rattle.output.specs.declared.AwaitedField.the-variants as A
 use Rattle.output.proofs.Back.{whole, message-reads}
@@ -34,7 +34,7 @@ use Rattle.skip.proofs.Past.{past-got}
 use Rattle.laws.specs.Written.{bytesOf, bytesOfWhole, HeaderWithin, readable, readableFields}
 use Rattle.laws.specs.Text.{Plan, Texts}
 use Rattle.laws.specs.Writing.{Step, ran, run, writeOf, writeWhole}
-use Rattle.laws.specs.Reading.{Took, readOf, readWhole}
+use Rattle.laws.specs.Reading.{Took, took, readOf, readWhole}
 use Rattle.laws.proofs.Spelt.{spelt}
 use Rattle.laws.proofs.Back.{put-back}
 use Rattle.laws.proofs.Writing.{Runs, Kept, Wrote, Ready, wrote, wrote-whole}
@@ -141,3 +141,40 @@ none-left lim depth calls a last after st next n fits back rd r p =
     let e = next .place .0 in
     let b = back (take e after) (take-take e e after (omega arith)) rd r p in
     record { gave = b .gave; behind = b .behind ∙ sym (length-take-le e after fits) }
+
+-- a new writer and a new reader, which has any input
+pub begun-ready : (lim : TConfiguration) → Ready lim 0 (begun lim)
+unfolding begun
+begun-ready lim = record { lims = refl; deep = refl; ids = refl; free = refl }
+
+pub fresh-ready : (s : List ℕ) (lim : TConfiguration) → reading.Ready s lim 0 (input.fresh lim)
+unfolding input.fresh
+fresh-ready s lim = record { lims = refl; deep = refl; ids = refl; free = refl; here = omega arith }
+
+-- what a new writer sends a new reader has, as an input of its own: a whole message, with no byte left
+pub record Mail (lim : TConfiguration) (plan : Plan) (m : TMessageType) (z : SeqNo) (name : List ℕ) (fs : Fields) (buf : List ℕ) : Type 0 where
+  pub writer : State
+  pub reader : input.State
+  pub writes : run (writeWhole plan m z name fs) buf (begun lim) ≡ ran (bytesOfWhole m z name fs ++ drop (length (bytesOfWhole m z name fs)) buf) writer
+  pub reads : readWhole (bytesOfWhole m z name fs) plan (input.fresh lim) ≡ took (m, z .0, name, readable (val.struct fs)) reader
+  pub written : writer .place .0 ≡ length (bytesOfWhole m z name fs)
+  pub none-left : reader .place .0 ≡ length (bytesOfWhole m z name fs)
+
+pub mail : (lim : TConfiguration) → Ranged lim → (plan : Plan) (m : TMessageType) (z : SeqNo) (name : List ℕ) (fs : Fields) → HeaderWithin lim z name → Within lim 0 (val.struct fs) → Texts plan (val.struct fs) → (buf : List ℕ) → length (bytesOfWhole m z name fs) ≤ length buf → Mail lim plan m z name fs buf
+unfolding begun input.fresh
+mail lim ok plan m z name fs hw w x buf h =
+    let bs = bytesOfWhole m z name fs in
+    let f = message-trip lim ok 0 plan m z name fs hw w x buf (begun lim) (begun-ready lim) (omega arith) in
+    let e : f .wrote .next .place .0 ≡ length bs = f .wrote .kept .there ∙ omega arith in
+    let zero-on : 0 + length bs ≡ length bs = omega arith in
+    let there : f .wrote .after ≡ bs ++ drop (length bs) buf = f .wrote .puts ∙ put-drop buf 0 bs (omega arith) ∙ ap (λ (n : ℕ). bs ++ drop n buf) zero-on in
+    let agree : take (f .wrote .next .place .0) bs ≡ take (f .wrote .next .place .0) (f .wrote .after) = ap (λ (n : ℕ). take n bs) e ∙ take-length bs ∙ sym (ap₂ (λ (n : ℕ) (l : List ℕ). take n l) e there ∙ take-at bs (drop (length bs) buf) (length bs) refl) in
+    let b = f .back bs agree (input.fresh lim) (fresh-ready bs lim) refl in
+    record {
+      writer = f .wrote .next;
+      reader = b .gave .next;
+      writes = f .wrote .writes ∙ ap (λ (l : List ℕ). ran l (f .wrote .next)) there;
+      reads = b .gave .is;
+      written = e;
+      none-left = omega (arith, b .behind);
+    }
