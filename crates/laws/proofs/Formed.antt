@@ -8,7 +8,7 @@ use native.Mathlib.Omega.{arith}
 use lib.ListN.{length, take, drop, take-append-drop}
 use lib.Seq.{slice, length-slice, drop-append-le, length-take-le}
 use Rattle.types.specs.declared.TType.{TType}
-use Rattle.types.specs.Value.{Tree}
+use Rattle.types.specs.Value.{Tree, nesting}
 use Rattle.numbers.specs.Varint.{got}
 use Rattle.heads.specs.Reader.{readAt}
 use Rattle.heads.specs.Answers.{place}
@@ -21,9 +21,10 @@ use Rattle.skip.specs.Skip.{skipOf, roomOf}
 use Rattle.skip.specs.declared.Skipped.the-variants.{Done}
 use Rattle.skip.proofs.Theorems.{reads, skip-formed}
 use Rattle.laws.specs.Text.{Plan, Texts}
-use Rattle.laws.specs.Reading.{readOf}
+use Rattle.laws.specs.Reading.{took, readOf}
 use Rattle.laws.proofs.Texts.{as-bytes, no-texts}
 use Rattle.laws.proofs.Reading.{Gave, Ready, read-of}
+use Rattle.laws.proofs.Exact.{Read, was-formed}
 
 -- the bytes from a place on: those up to another, and those behind it
 behind-slice : (s : List ℕ) (at e : ℕ) → at ≤ e → e ≤ length s → drop at s ≡ slice at e s ++ drop e s
@@ -43,6 +44,12 @@ module _ (s : List ℕ) (st : State) (ok : sound (length s) st ≡ true) (free :
       let l : length (slice at (at + n) s) ≡ n = length-slice at (at + n) s (f .inside) ∙ omega arith in
       subst (λ (m : ℕ). Gave (readOf s ty plan st) (f .tree) st m (st .last)) l
       (read-of s (st .limits) (q .limits) plan (f .tree) (roomOf st) (st .depth) ty (slice at (at + n) s) (drop (at + n) s) st (f .spelt) x ready (omega (arith, q .deep)) (behind-slice s at (at + n) (f .start) (f .inside)))
+
+  -- and back: a value that the calls read, nested no deeper than skip goes, stood there well formed
+  pub read-formed : (plan : Plan) (ty : TType) (t : Tree) (next : State) → readOf s ty plan st ≡ took t next → nesting t ≤ roomOf st → Read s (st .limits) (is-sound (length s) st ok .limits) (roomOf st) plan ty t st next
+  read-formed plan ty t next e h =
+      let q = is-sound (length s) st ok in
+      was-formed s (st .limits) (q .limits) plan ty (roomOf st) (st .depth) st next t ready (omega (arith, q .deep)) e h
 
   -- whatever skip takes is read by the calls, and the reader ends where skip does
   pub record Skipped (ty : TType) (n : ℕ) : Type 0 where

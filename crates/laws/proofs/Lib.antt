@@ -5,6 +5,7 @@ pub mod Readable
 pub mod Writing
 pub mod Texts
 pub mod Reading
+pub mod Exact
 pub mod Formed
 pub mod RoundTrip
 pub mod Samples

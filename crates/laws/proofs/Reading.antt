@@ -116,15 +116,15 @@ at-inside : (s bs rest : List ℕ) (at : ℕ) → at ≤ length s → drop at s 
 at-inside s bs rest at h e = omega (arith, length-drop at s, ap length e, length-append bs rest)
 
 module _ (s : List ℕ) (lim : TConfiguration) (ok : inRange lim ≡ true) where
-  ready-on : (depth n : ℕ) (a b : State) → Ready s lim depth a → Kept a b n → b .pending .0 ≡ W.Nothing → a .place .0 + n ≤ length s → Ready s lim depth b
+  pub ready-on : (depth n : ℕ) (a b : State) → Ready s lim depth a → Kept a b n → b .pending .0 ≡ W.Nothing → a .place .0 + n ≤ length s → Ready s lim depth b
   ready-on depth n a b r k f h =
       record { lims = k .lims ∙ r .lims; deep = k .deep ∙ r .deep; ids = k .long ∙ r .ids; free = f; here = omega (arith, k .there) }
 
   -- such a state is sound
-  is-fine : (depth : ℕ) (st : State) → Ready s lim depth st → depth ≤ lim .depth → sound (length s) st ≡ true
+  pub is-fine : (depth : ℕ) (st : State) → Ready s lim depth st → depth ≤ lim .depth → sound (length s) st ≡ true
   is-fine depth st r d = sound-is (length s) st (record { limits = rw (r .lims) ok; here = r .here; deep = rw (r .lims, r .deep) d })
 
-  is-free : (depth : ℕ) (st : State) → Ready s lim depth st → busy st ≡ false
+  pub is-free : (depth : ℕ) (st : State) → Ready s lim depth st → busy st ≡ false
   is-free depth st r = ap waits (r .free)
 
   kept-place : (st : State) (n : ℕ) → Kept st (movedTo st (place (st .place .0 + n))) n
@@ -174,7 +174,7 @@ module _ (s : List ℕ) (lim : TConfiguration) (ok : inRange lim ≡ true) where
         (λ n. ap (λ (l : List ℕ). took l n) (uuid-handed s st (is-fine depth st r d) (is-free depth st r) u _ (stands uuid uuid-lawful u bs rest st w e))) w e
 
     -- under the state's own limits
-    there : {A : Type 0} (p : TConfiguration → Reader A) (a : A) (bs : List ℕ) → Whole (p lim) a bs → Whole (p (st .limits)) a bs
+    pub there : {A : Type 0} (p : TConfiguration → Reader A) (a : A) (bs : List ℕ) → Whole (p lim) a bs → Whole (p (st .limits)) a bs
     there p a bs w = rw (r .lims) w
 
     -- UTF-8, where a string is read as such
@@ -192,17 +192,17 @@ module _ (s : List ℕ) (lim : TConfiguration) (ok : inRange lim ≡ true) where
         called (λ x. text (x .limits)) (text-lawful (st .limits)) (λ o. ofPart (stringPart s st) (asPart o .answer) (asPart o .state)) cs cs bs rest
         (λ n. ap (λ (l : List ℕ). took l n) (string-handed s st (is-fine depth st r d) (is-free depth st r) cs _ (stands (text (st .limits)) (text-lawful (st .limits)) cs bs rest st v e))) v e
 
-    list-gave : (t : TType) (n : ℕ) (bs rest : List ℕ) → Whole (items lim) (t, n) bs → drop (st .place .0) s ≡ bs ++ rest → Gave (aList s st) (t, n) st (length bs) (st .last)
+    pub list-gave : (t : TType) (n : ℕ) (bs rest : List ℕ) → Whole (items lim) (t, n) bs → drop (st .place .0) s ≡ bs ++ rest → Gave (aList s st) (t, n) st (length bs) (st .last)
     unfolding readList
     list-gave t n bs rest w e =
         called (λ x. items (x .limits)) (items-lawful (st .limits)) (λ o. ofList (asList o .answer) (asList o .state)) (t, n) (t, n) bs rest (λ n. refl) (there items (t, n) bs w) e
 
-    set-gave : (t : TType) (n : ℕ) (bs rest : List ℕ) → Whole (items lim) (t, n) bs → drop (st .place .0) s ≡ bs ++ rest → Gave (aSet s st) (t, n) st (length bs) (st .last)
+    pub set-gave : (t : TType) (n : ℕ) (bs rest : List ℕ) → Whole (items lim) (t, n) bs → drop (st .place .0) s ≡ bs ++ rest → Gave (aSet s st) (t, n) st (length bs) (st .last)
     unfolding readSet
     set-gave t n bs rest w e =
         called (λ x. items (x .limits)) (items-lawful (st .limits)) (λ o. ofList (asList o .answer) (asList o .state)) (t, n) (t, n) bs rest (λ n. refl) (there items (t, n) bs w) e
 
-    map-gave : (k v : TType) (n : ℕ) (bs rest : List ℕ) → Whole (pairs lim) (k, v, n) bs → drop (st .place .0) s ≡ bs ++ rest → Gave (aMap s st) (k, v, n) st (length bs) (st .last)
+    pub map-gave : (k v : TType) (n : ℕ) (bs rest : List ℕ) → Whole (pairs lim) (k, v, n) bs → drop (st .place .0) s ≡ bs ++ rest → Gave (aMap s st) (k, v, n) st (length bs) (st .last)
     unfolding readMap
     map-gave k v n bs rest w e =
         called (λ x. pairs (x .limits)) (pairs-lawful (st .limits)) (λ o. ofMap (asMap o .answer) (asMap o .state)) (k, v, n) (k, v, n) bs rest (λ n. refl) (there pairs (k, v, n) bs w) e
@@ -242,23 +242,23 @@ module _ (s : List ℕ) (lim : TConfiguration) (ok : inRange lim ≡ true) where
         ap asField (read-well (λ y. field (y .last .0)) onField s st (is-fine depth st r d) (is-free depth st r) x (st .place .0 + length h) (stands (field (st .last .0)) (field-lawful (st .last .0)) x h rest st w e))
 
     -- behind the header of a field, whose value may still stand in it
-    abbrev behind : ℤ → Awaited → ℕ → State
+    abbrev pub behind : ℤ → Awaited → ℕ → State
     behind id x n = movedTo (withPending (withLast st (idOf id)) x) (place (st .place .0 + n))
 
     kept-header : (id : ℤ) (x : Awaited) (n : ℕ) → Kept st (behind id x n) n
     kept-header id x n = record { there = refl; deep = refl; lims = refl; long = refl; below = λ i h. refl }
 
-    ready-header : (id : ℤ) (n : ℕ) → st .place .0 + n ≤ length s → Ready s lim depth (behind id W.Nothing n)
+    pub ready-header : (id : ℤ) (n : ℕ) → st .place .0 + n ≤ length s → Ready s lim depth (behind id W.Nothing n)
     ready-header id n h = ready-on depth n st (behind id W.Nothing n) r (kept-header id W.Nothing n) refl h
 
     -- the bool call hands out what stood in the header
-    taken-bool : (id : ℤ) (b : Bool) (n : ℕ) → st .place .0 + n ≤ length s → aBool s (behind id (W.Truth b) n) ≡ took b (behind id W.Nothing n)
+    pub taken-bool : (id : ℤ) (b : Bool) (n : ℕ) → st .place .0 + n ≤ length s → aBool s (behind id (W.Truth b) n) ≡ took b (behind id W.Nothing n)
     unfolding readBool bools
     taken-bool id b n h =
         let f : sound (length s) (behind id (W.Truth b) n) ≡ true = sound-is (length s) (behind id (W.Truth b) n) (record { limits = rw (r .lims) ok; here = h; deep = rw (r .lims, r .deep) d }) in
         rw f
 
-    headed-is : (id : ℤ) (n : ℕ) → movedTo (withLast st (idOf id)) (place (st .place .0 + n)) ≡ behind id W.Nothing n
+    pub headed-is : (id : ℤ) (n : ℕ) → movedTo (withLast st (idOf id)) (place (st .place .0 + n)) ≡ behind id W.Nothing n
     headed-is id n = ap (λ (x : Awaited). movedTo (withPending (withLast st (idOf id)) x) (place (st .place .0 + n))) (r .free)
 
     -- the fields from here on
@@ -323,13 +323,13 @@ module _ (s : List ℕ) (lim : TConfiguration) (ok : inRange lim ≡ true) where
 
     -- a struct: begin, its fields and the stop, end
     module _ (d1 : depth < lim .depth) where
-      begin-is : aBegin s st ≡ took tt (entered st)
+      pub begin-is : aBegin s st ≡ took tt (entered st)
       unfolding structBegin begins
       begin-is =
           let g = gate-free (length s) st (is-fine depth st r d) (is-free depth st r) in
           rw (eq-eqb (gate (length s) st) 0 g, lt-leb (st .limits .depth) (st .depth) (rw (r .lims, r .deep) d1))
 
-      ready-in : Ready s lim (suc depth) (entered st)
+      pub ready-in : Ready s lim (suc depth) (entered st)
       ready-in = record { lims = r .lims; deep = omega (arith, r .deep); ids = length-set (st .ids) (st .depth) (st .last .0) ∙ r .ids; free = r .free; here = r .here }
 
       module _ (x : State → Took Fields) (fs : Fields) (n : ℕ) (g : Walked (x (entered st)) fs (entered st) n) (h : st .place .0 + n ≤ length s) where
