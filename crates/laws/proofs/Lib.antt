@@ -1,5 +1,11 @@
 pub mod Table
 pub mod Spelt
 pub mod Back
+pub mod Readable
 pub mod Writing
+pub mod Texts
+pub mod Reading
+pub mod Exact
+pub mod Formed
 pub mod RoundTrip
+pub mod Samples

@@ -16,15 +16,18 @@ use Rattle.types.specs.declared.TType.{TType}
 use Rattle.types.specs.declared.TType.the-variants as T
 use Rattle.types.specs.declared.TConfiguration.{TConfiguration}
 use Rattle.types.specs.declared.FieldId.{FieldId}
+use Rattle.types.specs.declared.TMessageType.{TMessageType}
+use Rattle.types.specs.declared.SeqNo.{SeqNo}
 use Rattle.types.specs.Value as val
 use Rattle.types.specs.Value.{Tree, Trees, no-trees, tree, Pairs, no-pairs, pair, Fields, no-fields, typeOf, size, sizeP, nesting, nestingAll, nestingPairs, nestingFields, Sized, SizedAll, SizedPairs, SizedFields, Typed, TypedAll, TypedPairs, TypedFields, Within}
 use Rattle.types.proofs.Limits.{Ranged}
+use Rattle.utf8.specs.Utf8.{utf8}
 use Rattle.types.proofs.Value.{no-stop}
 use Rattle.numbers.specs.Answers.{putAt}
 use Rattle.numbers.proofs.Put.{put-put, length-put}
 use Rattle.output.specs.State.{State, idOf, placeOf, orElse, inTurn, turn, movedTo, headed, awaiting, entered, ended}
-use Rattle.output.specs.Bytes.{fieldBytes, itemsBytes, pairsBytes}
-use Rattle.output.specs.Calls.{Call, call, writes, leaves, written, countWrong, lengthWrong, fieldWrong, truthCall, beginWrong, endWrong, boolCall, i8Call, intCall, doubleCall, uuidCall, bytesCall, itemsCall, pairsCall, structBeginCall, structEndCall, fieldCall, stopCall}
+use Rattle.output.specs.Bytes.{fieldBytes, itemsBytes, pairsBytes, stringBytes, messageBytes}
+use Rattle.output.specs.Calls.{Call, call, writes, leaves, written, countWrong, lengthWrong, textWrong, fieldWrong, truthCall, beginWrong, endWrong, boolCall, i8Call, intCall, doubleCall, uuidCall, bytesCall, stringCall, itemsCall, pairsCall, structBeginCall, structEndCall, fieldCall, stopCall, messageCall}
 use Rattle.output.specs.declared.AwaitedField.{AwaitedField}
 use Rattle.output.specs.declared.AwaitedField.the-variants as A
 use Rattle.output.specs.declared.Written.{Written}
@@ -32,8 +35,9 @@ use Rattle.output.specs.declared.WriteAnswer.{WriteAnswer}
 use Rattle.output.specs.declared.WriteAnswer.the-variants as WA
 use Rattle.output.proofs.Checks.{Sound}
 use Rattle.output.proofs.Laws.{Went, goes}
-use Rattle.laws.specs.Written.{fieldCode, inHeader, bytesOf, bytesOfAll, bytesOfPairs, bytesOfFields}
-use Rattle.laws.specs.Writing.{Step, Ran, ran, stopped, goOn, run, writeOf, writeAll, writePairs, writeFields}
+use Rattle.laws.specs.Written.{fieldCode, inHeader, bytesOf, bytesOfAll, bytesOfPairs, bytesOfFields, bytesOfWhole, HeaderWithin}
+use Rattle.laws.specs.Text.{Form, binaries, strings, Plan, under, keyUnder, valueUnder, Fits, Texts, TextsAll, TextsPairs, TextsFields}
+use Rattle.laws.specs.Writing.{Step, Ran, ran, stopped, goOn, run, writeString, writeOf, writeAll, writePairs, writeFields, writeWhole}
 use Rattle.laws.proofs.Spelt.{InField, truthful, valued, in-field}
 
 -- a row of calls writes these bytes and ends in this state, wherever there is room
@@ -306,16 +310,16 @@ module _ (st : State) (fs : List Step) (bs : List ℕ) (f : st .pending .0 ≡ A
         }
 
 -- one field and those behind it
-field-wrote : (st : State) (last id : ℤ) (t : Tree) (fs : Fields) → st .last .0 ≡ last → st .pending .0 ≡ A.Nothing → InField t → ((b : State) → Kept st b (length (fieldBytes last id (fieldCode t))) → b .last .0 ≡ id → b .pending .0 ≡ A.Nothing → Wrote (writeOf t) (bytesOf t) b) → ((b : State) (n : ℕ) → Kept st b n → b .last .0 ≡ id → b .pending .0 ≡ A.Nothing → Fielded (writeFields fs) (bytesOfFields id fs) b) → Fielded (writeFields (val.field id t fs)) (bytesOfFields last (val.field id t fs)) st
+field-wrote : (plan : Plan) (st : State) (last id : ℤ) (t : Tree) (fs : Fields) → st .last .0 ≡ last → st .pending .0 ≡ A.Nothing → InField t → ((b : State) → Kept st b (length (fieldBytes last id (fieldCode t))) → b .last .0 ≡ id → b .pending .0 ≡ A.Nothing → Wrote (writeOf (under plan id) t) (bytesOf t) b) → ((b : State) (n : ℕ) → Kept st b n → b .last .0 ≡ id → b .pending .0 ≡ A.Nothing → Fielded (writeFields plan fs) (bytesOfFields id fs) b) → Fielded (writeFields plan (val.field id t fs)) (bytesOfFields last (val.field id t fs)) st
 unfolding writeOf writeFields bytesOfFields typeOf
-field-wrote st last id t fs e f (truthful b q) wv wf =
+field-wrote plan st last id t fs e f (truthful b q) wv wf =
     let bs : List ℕ = fieldBytes last id (truthCode b) in
     let mid : State = movedTo (headed (movedTo (awaiting st (idOf id)) (st .place .0 + 0)) (idOf id)) (st .place .0 + 0 + length bs) in
     let k : Kept st mid (length bs) = record { there = omega arith; deep = refl; lims = refl; long = refl; below = λ i h. refl } in
     rw q
-    (fields-on ((λ s. fieldCall s T.Bool (idOf id)) ∷ ((λ s. boolCall s b) ∷ [])) (writeFields fs) bs (bytesOfFields id fs) st mid
+    (fields-on ((λ s. fieldCall s T.Bool (idOf id)) ∷ ((λ s. boolCall s b) ∷ [])) (writeFields plan fs) bs (bytesOfFields id fs) st mid
     (bool-field st id b f bs (ap (λ (z : ℤ). fieldBytes z id (truthCode b)) (sym e))) k (wf mid (length bs) k refl refl))
-field-wrote st last id t fs e f (valued n c k) wv wf =
+field-wrote plan st last id t fs e f (valued n c k) wv wf =
     let bs : List ℕ = fieldBytes last id (typeCode (typeOf t)) in
     let mid : State = behind-header st id (length bs) in
     let km : Kept st mid (length bs) = kept-header st id (length bs) in
@@ -323,8 +327,8 @@ field-wrote st last id t fs e f (valued n c k) wv wf =
     let kv = kept-then st mid (v .next) (length bs) (length (bytesOf t)) km (v .kept) in
     let r : Runs ((λ s. fieldCall s (typeOf t) (idOf id)) ∷ []) bs st mid = subst (λ (z : ℤ). Runs ((λ s. fieldCall s (typeOf t) (idOf id)) ∷ []) (fieldBytes z id (typeCode (typeOf t))) st (behind-header st id (length (fieldBytes z id (typeCode (typeOf t)))))) e (value-field st id (typeOf t) f k) in
     rw (n, c)
-    (fields-on ((λ s. fieldCall s (typeOf t) (idOf id)) ∷ []) (writeOf t ++ writeFields fs) bs (bytesOf t ++ bytesOfFields id fs) st mid r km
-    (fields-on (writeOf t) (writeFields fs) (bytesOf t) (bytesOfFields id fs) mid (v .next) (v .runs) (v .kept)
+    (fields-on ((λ s. fieldCall s (typeOf t) (idOf id)) ∷ []) (writeOf (under plan id) t ++ writeFields plan fs) bs (bytesOf t ++ bytesOfFields id fs) st mid r km
+    (fields-on (writeOf (under plan id) t) (writeFields plan fs) (bytesOf t) (bytesOfFields id fs) mid (v .next) (v .runs) (v .kept)
     (wf (v .next) (length bs + length (bytesOf t)) kv (ap (λ (x : FieldId). x .0) (v .same-last)) (v .free))))
 
 element-is : (st : State) (b : Bool) → st .pending .0 ≡ A.Nothing → boolCall st b ≡ call 0 (truthCode b ∷ []) st
@@ -352,18 +356,27 @@ module _ (lim : TConfiguration) (ok : Ranged lim) where
         free = f;
       }
 
-  items-wrote : (ty : TType) (ts : Trees) (depth : ℕ) (st : State) → Ready lim depth st → size ts ≤ lim .container → TypedAll ty ts → ((b : State) → Ready lim depth b → Wrote (writeAll ts) (bytesOfAll ts) b) → Wrote ((λ x. itemsCall x ty (pos (size ts))) ∷ writeAll ts) (itemsBytes ty (size ts) ++ bytesOfAll ts) st
-  items-wrote ty ts depth st r h y k =
+  -- a string, by either call: where it is UTF-8 the string call writes the same
+  text-right : (l : TConfiguration) (cs : List ℕ) → length cs ≤ l .string → utf8 cs ≡ true → textWrong l cs ≡ 0
+  unfolding textWrong orElse
+  text-right l cs h u = rw (length-right l cs h, u)
+
+  string-wrote : (form : Form) (cs : List ℕ) (depth : ℕ) (st : State) → Ready lim depth st → length cs ≤ lim .string → Fits form cs → Wrote (writeString form cs ∷ []) (stringBytes cs) st
+  string-wrote binaries cs depth st r h x = one-call (λ y. bytesCall y cs) (lengthWrong (st .limits) cs) _ st refl (length-right (st .limits) cs (rw (r .lims) h)) (r .free)
+  string-wrote strings cs depth st r h x = one-call (λ y. stringCall y cs) (textWrong (st .limits) cs) _ st refl (text-right (st .limits) cs (rw (r .lims) h) x) (r .free)
+
+  items-wrote : (plan : Plan) (ty : TType) (ts : Trees) (depth : ℕ) (st : State) → Ready lim depth st → size ts ≤ lim .container → TypedAll ty ts → ((b : State) → Ready lim depth b → Wrote (writeAll plan 0 ts) (bytesOfAll ts) b) → Wrote ((λ x. itemsCall x ty (pos (size ts))) ∷ writeAll plan 0 ts) (itemsBytes ty (size ts) ++ bytesOfAll ts) st
+  items-wrote plan ty ts depth st r h y k =
       let f = one-call (λ x. itemsCall x ty (pos (size ts))) (countWrong (st .limits) ty ty (pos (size ts))) (itemsBytes ty (size ts)) st refl (all-right (st .limits) ty ts (rw (r .lims) h) y) (r .free) in
-      wrote-then ((λ x. itemsCall x ty (pos (size ts))) ∷ []) (writeAll ts) (itemsBytes ty (size ts)) (bytesOfAll ts) st f (k (f .next) (ready-on lim depth st (f .next) _ r (f .kept) (f .free)))
+      wrote-then ((λ x. itemsCall x ty (pos (size ts))) ∷ []) (writeAll plan 0 ts) (itemsBytes ty (size ts)) (bytesOfAll ts) st f (k (f .next) (ready-on lim depth st (f .next) _ r (f .kept) (f .free)))
 
-  map-wrote : (k v : TType) (ps : Pairs) (depth : ℕ) (st : State) → Ready lim depth st → sizeP ps ≤ lim .container → TypedPairs k v ps → ((b : State) → Ready lim depth b → Wrote (writePairs ps) (bytesOfPairs ps) b) → Wrote ((λ x. pairsCall x k v (pos (sizeP ps))) ∷ writePairs ps) (pairsBytes k v (sizeP ps) ++ bytesOfPairs ps) st
-  map-wrote k v ps depth st r h y on =
+  map-wrote : (plan : Plan) (k v : TType) (ps : Pairs) (depth : ℕ) (st : State) → Ready lim depth st → sizeP ps ≤ lim .container → TypedPairs k v ps → ((b : State) → Ready lim depth b → Wrote (writePairs plan 0 ps) (bytesOfPairs ps) b) → Wrote ((λ x. pairsCall x k v (pos (sizeP ps))) ∷ writePairs plan 0 ps) (pairsBytes k v (sizeP ps) ++ bytesOfPairs ps) st
+  map-wrote plan k v ps depth st r h y on =
       let f = one-call (λ x. pairsCall x k v (pos (sizeP ps))) (countWrong (st .limits) k v (pos (sizeP ps))) (pairsBytes k v (sizeP ps)) st refl (pairs-right (st .limits) k v ps (rw (r .lims) h) y) (r .free) in
-      wrote-then ((λ x. pairsCall x k v (pos (sizeP ps))) ∷ []) (writePairs ps) (pairsBytes k v (sizeP ps)) (bytesOfPairs ps) st f (on (f .next) (ready-on lim depth st (f .next) _ r (f .kept) (f .free)))
+      wrote-then ((λ x. pairsCall x k v (pos (sizeP ps))) ∷ []) (writePairs plan 0 ps) (pairsBytes k v (sizeP ps)) (bytesOfPairs ps) st f (on (f .next) (ready-on lim depth st (f .next) _ r (f .kept) (f .free)))
 
-  under : (st : State) (depth : ℕ) → Ready lim depth st → depth < lim .depth → st .depth < st .limits .depth
-  under st depth r h = rw (r .lims, r .deep) h
+  has-level : (st : State) (depth : ℕ) → Ready lim depth st → depth < lim .depth → st .depth < st .limits .depth
+  has-level st depth r h = rw (r .lims, r .deep) h
 
   in-ids : (st : State) (depth : ℕ) → Ready lim depth st → depth < lim .depth → st .depth < length (st .ids)
   in-ids st depth r h = rw (r .ids, r .deep) (omega (arith, ok .deep))
@@ -372,43 +385,53 @@ module _ (lim : TConfiguration) (ok : Ranged lim) where
   ready-in st depth r = record { lims = r .lims; deep = omega (arith, r .deep); ids = length-set (st .ids) (st .depth) (st .last .0) ∙ r .ids; free = r .free }
 
   mutual
-    unfolding nesting nestingAll nestingPairs nestingFields Sized SizedAll SizedPairs SizedFields Typed TypedAll TypedPairs TypedFields writeOf writeAll writePairs writeFields bytesOf bytesOfAll bytesOfPairs bytesOfFields
+    unfolding nesting nestingAll nestingPairs nestingFields Sized SizedAll SizedPairs SizedFields Typed TypedAll TypedPairs TypedFields Texts TextsAll TextsPairs TextsFields writeOf writeAll writePairs writeFields bytesOf bytesOfAll bytesOfPairs bytesOfFields
 
-    pub wrote : (t : Tree) (depth : ℕ) (st : State) → Ready lim depth st → depth + nesting t ≤ lim .depth → Sized lim t → Typed t → Wrote (writeOf t) (bytesOf t) st
-    wrote (val.truth b) depth st r n s y = element-wrote st b (r .free)
-    wrote (val.i8 z) depth st r n s y = one-call (λ x. i8Call x z) 0 _ st refl refl (r .free)
-    wrote (val.i16 z) depth st r n s y = one-call (λ x. intCall x z) 0 _ st refl refl (r .free)
-    wrote (val.i32 z) depth st r n s y = one-call (λ x. intCall x z) 0 _ st refl refl (r .free)
-    wrote (val.i64 z) depth st r n s y = one-call (λ x. intCall x z) 0 _ st refl refl (r .free)
-    wrote (val.double d) depth st r n s y = one-call (λ x. doubleCall x d) 0 _ st refl refl (r .free)
-    wrote (val.uuid u) depth st r n s y = one-call (λ x. uuidCall x u) 0 _ st refl refl (r .free)
-    wrote (val.bytes cs) depth st r n s y = one-call (λ x. bytesCall x cs) (lengthWrong (st .limits) cs) _ st refl (length-right (st .limits) cs (rw (r .lims) s)) (r .free)
-    wrote (val.list t ts) depth st r n s y = items-wrote t ts depth st r (s .0) y (λ b k. wrote-all t ts depth b k (omega arith) (s .1) y)
-    wrote (val.set t ts) depth st r n s y = items-wrote t ts depth st r (s .0) y (λ b k. wrote-all t ts depth b k (omega arith) (s .1) y)
-    wrote (val.map k v ps) depth st r n s y = map-wrote k v ps depth st r (s .0) y (λ b q. wrote-pairs k v ps depth b q (omega arith) (s .1) y)
-    wrote (val.struct fs) depth st r n s y =
-        struct-wrote st (writeFields fs) (bytesOfFields (pos 0) fs) (r .free) (under st depth r (omega arith)) (in-ids st depth r (omega arith))
-        (wrote-fields fs (suc depth) (movedTo (entered st) (st .place .0 + 0)) (pos 0) (ready-in st depth r) refl (omega arith) s y)
+    pub wrote : (plan : Plan) (t : Tree) (depth : ℕ) (st : State) → Ready lim depth st → depth + nesting t ≤ lim .depth → Sized lim t → Typed t → Texts plan t → Wrote (writeOf plan t) (bytesOf t) st
+    wrote plan (val.truth b) depth st r n s y x = element-wrote st b (r .free)
+    wrote plan (val.i8 z) depth st r n s y x = one-call (λ c. i8Call c z) 0 _ st refl refl (r .free)
+    wrote plan (val.i16 z) depth st r n s y x = one-call (λ c. intCall c z) 0 _ st refl refl (r .free)
+    wrote plan (val.i32 z) depth st r n s y x = one-call (λ c. intCall c z) 0 _ st refl refl (r .free)
+    wrote plan (val.i64 z) depth st r n s y x = one-call (λ c. intCall c z) 0 _ st refl refl (r .free)
+    wrote plan (val.double d) depth st r n s y x = one-call (λ c. doubleCall c d) 0 _ st refl refl (r .free)
+    wrote plan (val.uuid u) depth st r n s y x = one-call (λ c. uuidCall c u) 0 _ st refl refl (r .free)
+    wrote plan (val.bytes cs) depth st r n s y x = string-wrote (plan []) cs depth st r s x
+    wrote plan (val.list t ts) depth st r n s y x = items-wrote plan t ts depth st r (s .0) y (λ b k. wrote-all plan 0 t ts depth b k (omega arith) (s .1) y x)
+    wrote plan (val.set t ts) depth st r n s y x = items-wrote plan t ts depth st r (s .0) y (λ b k. wrote-all plan 0 t ts depth b k (omega arith) (s .1) y x)
+    wrote plan (val.map k v ps) depth st r n s y x = map-wrote plan k v ps depth st r (s .0) y (λ b q. wrote-pairs plan 0 k v ps depth b q (omega arith) (s .1) y x)
+    wrote plan (val.struct fs) depth st r n s y x =
+        struct-wrote st (writeFields plan fs) (bytesOfFields (pos 0) fs) (r .free) (has-level st depth r (omega arith)) (in-ids st depth r (omega arith))
+        (wrote-fields plan fs (suc depth) (movedTo (entered st) (st .place .0 + 0)) (pos 0) (ready-in st depth r) refl (omega arith) s y x)
 
-    wrote-all : (ty : TType) (ts : Trees) (depth : ℕ) (st : State) → Ready lim depth st → depth + nestingAll ts ≤ lim .depth → SizedAll lim ts → TypedAll ty ts → Wrote (writeAll ts) (bytesOfAll ts) st
-    wrote-all ty no-trees depth st r n s y = nothing-wrote st (r .free)
-    wrote-all ty (tree t ts) depth st r n s y =
-        let f = wrote t depth st r (omega arith) (s .0) (y .1) in
-        wrote-then (writeOf t) (writeAll ts) (bytesOf t) (bytesOfAll ts) st f (wrote-all ty ts depth (f .next) (ready-on lim depth st (f .next) _ r (f .kept) (f .free)) (omega arith) (s .1) (y .2))
+    wrote-all : (plan : Plan) (i : ℕ) (ty : TType) (ts : Trees) (depth : ℕ) (st : State) → Ready lim depth st → depth + nestingAll ts ≤ lim .depth → SizedAll lim ts → TypedAll ty ts → TextsAll plan i ts → Wrote (writeAll plan i ts) (bytesOfAll ts) st
+    wrote-all plan i ty no-trees depth st r n s y x = nothing-wrote st (r .free)
+    wrote-all plan i ty (tree t ts) depth st r n s y x =
+        let f = wrote (under plan (pos i)) t depth st r (omega arith) (s .0) (y .1) (x .0) in
+        wrote-then (writeOf (under plan (pos i)) t) (writeAll plan (suc i) ts) (bytesOf t) (bytesOfAll ts) st f
+        (wrote-all plan (suc i) ty ts depth (f .next) (ready-on lim depth st (f .next) _ r (f .kept) (f .free)) (omega arith) (s .1) (y .2) (x .1))
 
-    wrote-pairs : (k v : TType) (ps : Pairs) (depth : ℕ) (st : State) → Ready lim depth st → depth + nestingPairs ps ≤ lim .depth → SizedPairs lim ps → TypedPairs k v ps → Wrote (writePairs ps) (bytesOfPairs ps) st
-    wrote-pairs k v no-pairs depth st r n s y = nothing-wrote st (r .free)
-    wrote-pairs k v (pair t u ps) depth st r n s y =
-        let f = wrote t depth st r (omega arith) (s .0) (y .2) in
+    wrote-pairs : (plan : Plan) (i : ℕ) (k v : TType) (ps : Pairs) (depth : ℕ) (st : State) → Ready lim depth st → depth + nestingPairs ps ≤ lim .depth → SizedPairs lim ps → TypedPairs k v ps → TextsPairs plan i ps → Wrote (writePairs plan i ps) (bytesOfPairs ps) st
+    wrote-pairs plan i k v no-pairs depth st r n s y x = nothing-wrote st (r .free)
+    wrote-pairs plan i k v (pair t u ps) depth st r n s y x =
+        let f = wrote (keyUnder plan i) t depth st r (omega arith) (s .0) (y .2) (x .0) in
         let rf = ready-on lim depth st (f .next) _ r (f .kept) (f .free) in
-        let g = wrote u depth (f .next) rf (omega arith) (s .1) (y .3) in
+        let g = wrote (valueUnder plan i) u depth (f .next) rf (omega arith) (s .1) (y .3) (x .1) in
         let rg = ready-on lim depth (f .next) (g .next) _ rf (g .kept) (g .free) in
-        wrote-then (writeOf t) (writeOf u ++ writePairs ps) (bytesOf t) (bytesOf u ++ bytesOfPairs ps) st f
-        (wrote-then (writeOf u) (writePairs ps) (bytesOf u) (bytesOfPairs ps) (f .next) g (wrote-pairs k v ps depth (g .next) rg (omega arith) (s .2) (y .4)))
+        wrote-then (writeOf (keyUnder plan i) t) (writeOf (valueUnder plan i) u ++ writePairs plan (suc i) ps) (bytesOf t) (bytesOf u ++ bytesOfPairs ps) st f
+        (wrote-then (writeOf (valueUnder plan i) u) (writePairs plan (suc i) ps) (bytesOf u) (bytesOfPairs ps) (f .next) g
+        (wrote-pairs plan (suc i) k v ps depth (g .next) rg (omega arith) (s .2) (y .4) (x .2)))
 
-    wrote-fields : (fs : Fields) (depth : ℕ) (st : State) (last : ℤ) → Ready lim depth st → st .last .0 ≡ last → depth + nestingFields fs ≤ lim .depth → SizedFields lim fs → TypedFields fs → Fielded (writeFields fs) (bytesOfFields last fs) st
-    wrote-fields no-fields depth st last r e n s y = ended-fields st (r .free)
-    wrote-fields (val.field id t fs) depth st last r e n s y =
-        field-wrote st last id t fs e (r .free) (in-field t)
-        (λ b k q p. wrote t depth b (ready-on lim depth st b _ r k p) (omega arith) (s .0) (y .1))
-        (λ b m k q p. wrote-fields fs depth b id (ready-on lim depth st b m r k p) q (omega arith) (s .1) (y .2))
+    wrote-fields : (plan : Plan) (fs : Fields) (depth : ℕ) (st : State) (last : ℤ) → Ready lim depth st → st .last .0 ≡ last → depth + nestingFields fs ≤ lim .depth → SizedFields lim fs → TypedFields fs → TextsFields plan fs → Fielded (writeFields plan fs) (bytesOfFields last fs) st
+    wrote-fields plan no-fields depth st last r e n s y x = ended-fields st (r .free)
+    wrote-fields plan (val.field id t fs) depth st last r e n s y x =
+        field-wrote plan st last id t fs e (r .free) (in-field t)
+        (λ b k q p. wrote (under plan id) t depth b (ready-on lim depth st b _ r k p) (omega arith) (s .0) (y .1) (x .0))
+        (λ b m k q p. wrote-fields plan fs depth b id (ready-on lim depth st b m r k p) q (omega arith) (s .1) (y .2) (x .1))
+
+  -- a whole message: its header with the name, then its struct. "Writing it doesn't" set the last id.
+  pub wrote-whole : (plan : Plan) (m : TMessageType) (z : SeqNo) (name : List ℕ) (fs : Fields) (depth : ℕ) (st : State) → Ready lim depth st → HeaderWithin lim z name → Within lim depth (val.struct fs) → Texts plan (val.struct fs) → Wrote (writeWhole plan m z name fs) (bytesOfWhole m z name fs) st
+  unfolding writeWhole bytesOfWhole
+  wrote-whole plan m z name fs depth st r h w x =
+      let f = one-call (λ c. messageCall c m z name) (textWrong (st .limits) name) (messageBytes m (z .0) name) st refl (text-right (st .limits) name (rw (r .lims) (h .short)) (h .text)) (r .free) in
+      wrote-then ((λ c. messageCall c m z name) ∷ []) (writeOf plan (val.struct fs)) (messageBytes m (z .0) name) (bytesOf (val.struct fs)) st f
+      (wrote plan (val.struct fs) depth (f .next) (ready-on lim depth st (f .next) _ r (f .kept) (f .free)) (w .nested) (w .sized) (w .typed) x)

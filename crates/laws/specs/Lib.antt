@@ -1,2 +1,4 @@
 pub mod Written
+pub mod Text
 pub mod Writing
+pub mod Reading

@@ -1,18 +1,24 @@
 -- The bytes of a value as the writer's calls write it, call by call in the order of the value's grammar, and the value that can be read back.
 -- Assumes nothing: these are definitions.
-use Prim.Native.Nat.{ℕ}
+use Prim.Native.Nat.{ℕ, _≤_}
+use mathlib.Core.Path.{_≡_}
 use mathlib.Core.Bool.{Bool, true, false, cond}
 use mathlib.Core.List.{List, [], _∷_, _++_}
+use lib.ListN.{length}
 use lib.IntN.{ℤ, pos}
-use mir.Syntax.{w8}
-use mir.Val.{ofZ}
+use mir.Syntax.{w8, w32}
+use mir.Val.{SFits, ofZ}
 use Rattle.types.specs.Codes.{typeCode, truthCode}
 use Rattle.types.specs.declared.TType.{TType}
 use Rattle.types.specs.declared.TType.the-variants as T
+use Rattle.types.specs.declared.TMessageType.{TMessageType}
+use Rattle.types.specs.declared.TConfiguration.{TConfiguration}
+use Rattle.types.specs.declared.SeqNo.{SeqNo}
 use Rattle.types.specs.Value as val
 use Rattle.types.specs.Value.{Tree, Trees, no-trees, tree, Pairs, no-pairs, pair, Fields, no-fields, size, sizeP}
 use Rattle.numbers.specs.Fixed.{eight}
-use Rattle.output.specs.Bytes.{intBytes, fieldBytes, itemsBytes, pairsBytes, stringBytes}
+use Rattle.utf8.specs.Utf8.{utf8}
+use Rattle.output.specs.Bytes.{intBytes, fieldBytes, itemsBytes, pairsBytes, stringBytes, messageBytes}
 
 -- "1 and 2 are true and false in a field"; any other value's type has its own code
 abbrev pub fieldCode : Tree → ℕ
@@ -71,6 +77,16 @@ unfoldable mutual
   pub bytesOfFields : ℤ → Fields → List ℕ
   bytesOfFields last no-fields = 0 ∷ []
   bytesOfFields last (val.field id t fs) = fieldBytes last id (fieldCode t) ++ (cond (inHeader t) [] (bytesOf t) ++ bytesOfFields id fs)
+
+-- the bytes of a whole message: its header with the name, then its struct
+unfoldable pub bytesOfWhole : TMessageType → SeqNo → List ℕ → Fields → List ℕ
+bytesOfWhole m z name fs = messageBytes m (z .0) name ++ bytesOf (val.struct fs)
+
+-- a message's header within the limits: a 32-bit sequence number, a name that is no longer than the longest string and is UTF-8
+pub record HeaderWithin (lim : TConfiguration) (z : SeqNo) (name : List ℕ) : Type 0 where
+  pub number : SFits w32 (z .0)
+  pub short : length name ≤ lim .string
+  pub text : utf8 name ≡ true
 
 -- an empty map has no types, which is Stop twice
 abbrev pub mapOf : TType → TType → Pairs → Tree

@@ -1,0 +1,63 @@
+-- Well-formed bytes, overlong and long forms among them, are read by the calls as the tree that they spell, and the reader stands behind them.
+-- Assumes nothing.
+use mathlib.Core.Path.{_≡_, refl, sym, ap, subst, _∙_}
+use mathlib.Core.Bool.{true}
+use mathlib.Core.List.{List, _++_}
+use Prim.Native.Nat.{ℕ, _+_, _-_, _≤_}
+use native.Mathlib.Omega.{arith}
+use lib.ListN.{length, take, drop, take-append-drop}
+use lib.Seq.{slice, length-slice, drop-append-le, length-take-le}
+use Rattle.types.specs.declared.TType.{TType}
+use Rattle.types.specs.Value.{Tree, nesting}
+use Rattle.numbers.specs.Varint.{got}
+use Rattle.heads.specs.Reader.{readAt}
+use Rattle.heads.specs.Answers.{place}
+use Rattle.heads.specs.Spells.{Spells, Formed}
+use Rattle.input.specs.State.{State, sound}
+use Rattle.input.specs.declared.Awaited.the-variants as W
+use Rattle.input.proofs.Gate.{is-sound}
+use Rattle.skip.specs.Value.{valueOf}
+use Rattle.skip.specs.Skip.{skipOf, roomOf}
+use Rattle.skip.specs.declared.Skipped.the-variants.{Done}
+use Rattle.skip.proofs.Theorems.{reads, skip-formed}
+use Rattle.laws.specs.Text.{Plan, Texts}
+use Rattle.laws.specs.Reading.{took, readOf}
+use Rattle.laws.proofs.Texts.{as-bytes, no-texts}
+use Rattle.laws.proofs.Reading.{Gave, Ready, read-of}
+use Rattle.laws.proofs.Exact.{Read, was-formed}
+
+-- the bytes from a place on: those up to another, and those behind it
+behind-slice : (s : List ℕ) (at e : ℕ) → at ≤ e → e ≤ length s → drop at s ≡ slice at e s ++ drop e s
+behind-slice s at e h k =
+    ap (drop at) (sym (take-append-drop e s)) ∙ drop-append-le at (take e s) (drop e s) (omega (arith, length-take-le e s k))
+
+-- a reader that is sound for its input, with no bool pending (the array of ids has 64 places, as its type says)
+module _ (s : List ℕ) (st : State) (ok : sound (length s) st ≡ true) (free : st .pending .0 ≡ W.Nothing) (ids : length (st .ids) ≡ 64) where
+  pub ready : Ready s (st .limits) (st .depth) st
+  ready = record { lims = refl; deep = refl; ids = ids; free = free; here = is-sound (length s) st ok .here }
+
+  -- n bytes that are well formed are read as the tree that they spell; "strings .. as such are UTF-8" where they are read so
+  pub formed-read : (plan : Plan) (ty : TType) (n : ℕ) (f : Formed s (st .limits) (roomOf st) ty (st .place .0) (st .place .0 + n)) → Texts plan (f .tree) → Gave (readOf s ty plan st) (f .tree) st n (st .last)
+  formed-read plan ty n f x =
+      let at = st .place .0 in
+      let q = is-sound (length s) st ok in
+      let l : length (slice at (at + n) s) ≡ n = length-slice at (at + n) s (f .inside) ∙ omega arith in
+      subst (λ (m : ℕ). Gave (readOf s ty plan st) (f .tree) st m (st .last)) l
+      (read-of s (st .limits) (q .limits) plan (f .tree) (roomOf st) (st .depth) ty (slice at (at + n) s) (drop (at + n) s) st (f .spelt) x ready (omega (arith, q .deep)) (behind-slice s at (at + n) (f .start) (f .inside)))
+
+  -- and back: a value that the calls read, nested no deeper than skip goes, stood there well formed
+  pub read-formed : (plan : Plan) (ty : TType) (t : Tree) (next : State) → readOf s ty plan st ≡ took t next → nesting t ≤ roomOf st → Read s (st .limits) (is-sound (length s) st ok .limits) (roomOf st) plan ty t st next
+  read-formed plan ty t next e h =
+      let q = is-sound (length s) st ok in
+      was-formed s (st .limits) (q .limits) plan ty (roomOf st) (st .depth) st next t ready (omega (arith, q .deep)) e h
+
+  -- whatever skip takes is read by the calls, and the reader ends where skip does
+  pub record Skipped (ty : TType) (n : ℕ) : Type 0 where
+    pub tree : Tree
+    pub stood : readAt (valueOf (st .limits) (roomOf st) ty) s (st .place .0) ≡ got tree (st .place .0 + n)
+    pub gave : Gave (readOf s ty as-bytes st) tree st n (st .last)
+
+  pub skipped-read : (ty : TType) (n : ℕ) → skipOf s (st .limits) (roomOf st) ty (st .place .0) ≡ Done (place (st .place .0 + n)) → Skipped ty n
+  skipped-read ty n e =
+      let f = skip-formed s (st .limits) (roomOf st) ty (st .place .0) (st .place .0 + n) e in
+      record { tree = f .tree; stood = reads s (st .limits) (roomOf st) ty (st .place .0) (st .place .0 + n) (f .tree) (f .start) (f .inside) (f .spelt); gave = formed-read as-bytes ty n f (no-texts (f .tree)) }
