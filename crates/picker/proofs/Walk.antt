@@ -150,3 +150,17 @@ module _ (lim : TConfiguration) (room : ℕ) (s : List ℕ) where
 
       pub valueless : {X : Type 0} (why : ℕ) → readAt (valueOf lim room t) s m ≡ refused why → X
       valueless why h = not-both (sym (begun (value t id) m f ∙ stop-at (sizing (valueOf lim room t)) _ s m why (sized-no (valueOf lim room t) s m why h)) ∙ g)
+
+    -- and forwards: a field, and the fields behind it
+    pub walk-stop : (m : ℕ) → readAt (field last) s p ≡ got stop m → readAt (fields val.truth (valueOf lim room) last) s p ≡ got [] m
+    walk-stop m f = begun stop m f ∙ done-at s m []
+
+    pub walk-bool : (b : Bool) (id : ℤ) (m : ℕ) (fs : List (Entry Tree)) (e : ℕ) → readAt (field last) s p ≡ got (bool b id) m → readAt (fields val.truth (valueOf lim room) id) s m ≡ got fs e → readAt (fields val.truth (valueOf lim room) last) s p ≡ got (record { id = id; what = val.truth b; head = m - p; size = 0 } ∷ fs) e
+    walk-bool b id m fs e f g = begun (bool b id) m f ∙ step (own id) _ s m fs e g ∙ done-at s e _
+
+    pub walk-value : (t : TType) (id : ℤ) (m : ℕ) (v : Tree) (q : ℕ) (fs : List (Entry Tree)) (e : ℕ) → readAt (field last) s p ≡ got (value t id) m → readAt (valueOf lim room t) s m ≡ got v q → readAt (fields val.truth (valueOf lim room) id) s q ≡ got fs e → readAt (fields val.truth (valueOf lim room) last) s p ≡ got (entry id v p m q ∷ fs) e
+    walk-value t id m v q fs e f h g =
+        begun (value t id) m f
+        ∙ step (sizing (valueOf lim room t)) _ s m (v, q - m) q (sized-at (valueOf lim room t) s m v q h .0)
+        ∙ step (own id) _ s q fs e g
+        ∙ done-at s e _

@@ -1,0 +1,1 @@
+// Theorems over several crates. There is no code here: they stand in proofs/.
