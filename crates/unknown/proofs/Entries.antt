@@ -6,7 +6,7 @@ use Prim.Native.Nat.{ℕ, _+_, _-_, _≤_, _<_}
 use native.Mathlib.Omega.{arith}
 use lib.IntN.{ℤ, pos}
 use lib.ListN.{length, drop, length-append}
-use lib.Seq.{drop-drop}
+use lib.Seq.{drop-drop, drop-at}
 use mir.Syntax.{w16}
 use mir.Val.{SFits}
 use Rattle.types.specs.Codes.{typeCode, truthCode}
@@ -33,13 +33,9 @@ unfoldable pub entriesOf : ℤ → Fields → List (Entry Tree)
 entriesOf last no-fields = []
 entriesOf last (val.field id t fs) = record { id = id; what = readable t; head = length (fieldBytes last id (fieldCode t)); size = length (valueBytes t) } ∷ entriesOf id fs
 
-drop-front : (xs ys : List ℕ) → drop (length xs) (xs ++ ys) ≡ ys
-drop-front [] ys = refl
-drop-front (x ∷ xs) ys = drop-front xs ys
-
 -- bytes that stand at a place, and those behind them
 pub behind : (s : List ℕ) (p : ℕ) (xs rest : List ℕ) → drop p s ≡ xs ++ rest → drop (p + length xs) s ≡ rest
-behind s p xs rest e = sym (drop-drop (length xs) p s) ∙ ap (drop (length xs)) e ∙ drop-front xs rest
+behind s p xs rest e = sym (drop-drop (length xs) p s) ∙ ap (drop (length xs)) e ∙ drop-at xs rest (length xs) refl
 
 pub reads-at : {A : Type 0} (q : List ℕ → Found A) (s : List ℕ) (p : ℕ) (xs rest : List ℕ) (a : A) → drop p s ≡ xs ++ rest → q (xs ++ rest) ≡ got a (length xs) → readAt q s p ≡ got a (p + length xs)
 unfolding readAt
