@@ -28,7 +28,13 @@ use Rattle.wanted.specs.Wanted.{sameId, among, listed}
 use Rattle.wanted.proofs.Cases.{is-same, same-self}
 use Rattle.picker.specs.Pick.{Row, Own, ownFrom, answer, rowsOf, forgets, pickCall, written, pickedRows}
 use Rattle.picker.proofs.Went.{Went, went-is}
+use Rattle.output.specs.State as writer
+use Rattle.numbers.proofs.Put.{length-put}
+use Rattle.laws.specs.Text.{Plan, Texts}
 use Rattle.laws.specs.Written.{bytesOf, bytesOfFields}
+use Rattle.laws.specs.Writing.{Step, writeOf}
+use Rattle.laws.proofs.Writing as writing
+use Rattle.laws.proofs.RoundTrip.{same-there, Through, There, round-trip}
 use Rattle.unknown.specs.Inserted.{Inserted, Told, absent, other, told, joined, lastIn, kindOf, bytesIn}
 use Rattle.unknown.proofs.Entries.{entriesOf, entries-read}
 use Rattle.unknown.proofs.Answers.{Agrees, told-by}
@@ -119,3 +125,53 @@ insertion lim ok depth ids kinds l fs gs w v ins s₁ st₁ p s₂ st₂ q rows�
       second = b;
       same = λ id m k. same-row s₁ s₂ (answer id k (a .own)) (answer id k (b .own)) (lastIn id k fs) (lastIn id k gs) (a .tells id k) (b .tells id k) (same-told ids id k m gs fs ins);
     }
+
+-- Where the writer's calls wrote a value, a reader stands at it: in any input that agrees with the writer's buffer up to the writer's place, where the
+-- writer stood before.
+pub written-stands : (lim : TConfiguration) (depth : ℕ) (steps : List Step) (t : Tree) (buf : List ℕ) (ws : writer.State) (w : Through steps (bytesOf t) buf ws) (s : List ℕ) → take (w .next .place .0) s ≡ take (w .next .place .0) (w .after) → (st : State) → st .limits ≡ lim → st .depth ≡ depth → sound (length s) st ≡ true → waits (st .pending .0) ≡ false → st .place .0 ≡ ws .place .0 → Stands lim depth t s st
+written-stands lim depth steps t buf ws w s agree st a b c d e =
+    let at : ws .place .0 + length (bytesOf t) ≡ w .next .place .0 = sym (w .kept .there) in
+    let fits : w .next .place .0 ≤ length buf = omega (arith, w .fits, ap length (w .puts), length-put buf (ws .place .0) (bytesOf t)) in
+    record {
+      lims = a;
+      deep = b;
+      sounds = c;
+      free = d;
+      rest = drop (length (bytesOf t)) (drop (ws .place .0) s);
+      here = ap (λ (n : ℕ). drop n s) e ∙ same-there buf s (bytesOf t) (ws .place .0) (w .next .place .0) at fits (agree ∙ ap (take (w .next .place .0)) (w .puts));
+    }
+
+-- One side of the demand: a struct written by the calls, and a reader that stands at it.
+pub record Side (lim : TConfiguration) (depth : ℕ) (fs : Fields) : Type 0 where
+  pub within : Within lim depth (val.struct fs)
+  pub plan : Plan
+  pub texts : Texts plan (val.struct fs)
+  pub buf : List ℕ
+  pub before : writer.State
+  pub ready : writing.Ready lim depth before
+  pub room : before .place .0 + length (bytesOf (val.struct fs)) ≤ length buf
+  pub s : List ℕ
+  pub st : State
+  pub lims : st .limits ≡ lim
+  pub deep : st .depth ≡ depth
+  pub sounds : sound (length s) st ≡ true
+  pub free : waits (st .pending .0) ≡ false
+  pub there : st .place .0 ≡ before .place .0
+
+-- what the writer's calls left
+pub left-by : (lim : TConfiguration) → Ranged lim → (depth : ℕ) (fs : Fields) (x : Side lim depth fs) → There lim depth (x .plan) (val.struct fs) (x .buf) (x .before)
+left-by lim ok depth fs x = round-trip lim ok depth (x .plan) (val.struct fs) (x .within) (x .texts) (x .buf) (x .before) (x .ready) (x .room)
+
+-- the reader's input agrees with it up to the writer's place
+abbrev pub Agreed : (lim : TConfiguration) → Ranged lim → (depth : ℕ) (fs : Fields) → Side lim depth fs → Type 0
+Agreed lim ok depth fs x =
+    let w = left-by lim ok depth fs x .wrote in
+    take (w .next .place .0) (x .s) ≡ take (w .next .place .0) (w .after)
+
+-- Demand 3: "Unknown complete fields put among a struct's own change no answer"
+pub unknown-fields : (lim : TConfiguration) (ok : Ranged lim) (depth : ℕ) (ids : List ℤ) (kinds : List ℕ) → listed ids kinds ≡ true → (fs gs : Fields) → Inserted ids fs gs → (x : Side lim depth fs) → Agreed lim ok depth fs x → (y : Side lim depth gs) → Agreed lim ok depth gs y → (rows₁ rows₂ : List ℕ) → 3 * length ids ≤ length rows₁ → 3 * length ids ≤ length rows₂ → Unmoved ids kinds fs gs (x .s) (y .s) (x .st) (y .st) rows₁ rows₂
+unknown-fields lim ok depth ids kinds l fs gs ins x a y b rows₁ rows₂ h₁ h₂ =
+    insertion lim ok depth ids kinds l fs gs (x .within) (y .within) ins (x .s) (x .st) (stood fs x a) (y .s) (y .st) (stood gs y b) rows₁ rows₂ h₁ h₂
+  where
+    stood : (hs : Fields) (z : Side lim depth hs) → Agreed lim ok depth hs z → Stands lim depth (val.struct hs) (z .s) (z .st)
+    stood hs z c = written-stands lim depth (writeOf (z .plan) (val.struct hs)) (val.struct hs) (z .buf) (z .before) (left-by lim ok depth hs z .wrote) (z .s) c (z .st) (z .lims) (z .deep) (z .sounds) (z .free) (z .there)
