@@ -1,6 +1,6 @@
 -- What the picker answers for a struct that the writer wrote: by the struct's own fields alone. Assumes nothing.
 use mathlib.Core.Path.{_≡_, refl, sym, ap, ap₂, _∙_}
-use mathlib.Core.Bool.{Bool, true, false, cond, _&&_, _||_}
+use mathlib.Core.Bool.{Bool}
 use mathlib.Core.List.{List, [], _∷_, _++_, append-assoc}
 use Prim.Native.Nat.{ℕ, _+_, _≤_}
 use native.Mathlib.Omega.{arith}
@@ -17,10 +17,11 @@ use Rattle.numbers.proofs.Found.{take-drop}
 use Rattle.output.specs.Bytes.{fieldBytes}
 use Rattle.skip.specs.Walk.{Entry}
 use Rattle.wanted.specs.Wanted.{sameId}
-use Rattle.picker.specs.Pick.{Row, kindAlone, rowOf, Own, owned, ownFrom, Last, none, one, orElse, lastOf, occurs, ofId, ofType, answered, answer}
+use Rattle.picker.specs.Pick.{Row, kindAlone, rowOf, Own, owned, ownFrom, Last, lastOf, occurs, ofId, ofType, answered, answer}
 use Rattle.laws.specs.Written.{fieldCode, inHeader, bytesOf, bytesOfFields, mapOf, readable, readablePairs}
-use Rattle.unknown.specs.Inserted.{Told, absent, other, told, joined, lastIn, kindIn, kindOf, valueBytes, bytesIn}
+use Rattle.unknown.specs.Inserted.{Told, absent, other, told, lastIn, kindIn, kindOf, valueBytes, bytesIn}
 use Rattle.unknown.proofs.Entries.{entriesOf, behind}
+use Rattle.unknown.proofs.Link.{Link, link-more}
 
 -- what can be read back has the type of what was written
 map-type : (k v : TType) (ps : Pairs) → typeOf (mapOf k v ps) ≡ T.Map
@@ -68,32 +69,13 @@ row-agrees s (val.set t ts) a e h = record { kind = refl; bytes = h }
 row-agrees s (val.map k v ps) a e h = rw (map-row k v (readablePairs ps) a e) (record { kind = refl; bytes = h })
 row-agrees s (val.struct fs) a e h = record { kind = refl; bytes = h }
 
+-- a field as it was written
+pub record Stood (s : List ℕ) (o : Own) (t : Tree) : Type 0 where
+  pub is : o .what ≡ readable t
+  pub at : slice (o .start) (o .end) s ≡ valueBytes t
+
 module _ (s : List ℕ) (id : ℤ) (k : ℕ) where
-  -- a field as it was written
-  pub record Stood (o : Own) (t : Tree) : Type 0 where
-    pub is : o .what ≡ readable t
-    pub at : slice (o .start) (o .end) s ≡ valueBytes t
-
-  -- what the walk's fields say is what the struct says
-  unfoldable Link : Last → Bool → Told → Type 0
-  Link l b absent = (l ≡ none) × (b ≡ false)
-  Link l b other = (l ≡ none) × (b ≡ true)
-  Link l b (told t) = (o : Own) × (l ≡ one o) × Stood o t
-
-  abbrev more : Last → Bool → Bool → Own → Last
-  more l mine same o = orElse l (cond (mine && same) (one o) none)
-
-  link-more : (x : Told) (l : Last) (b mine same : Bool) (o : Own) (t : Tree) → Link l b x → Stood o t → Link (more l mine same o) (mine || b) (joined x mine same t)
-  unfolding Link
-  link-more absent l b true true o t h st = rw (h .0) (o, refl, st)
-  link-more absent l b true false o t h st = rw (h .0) (refl, refl)
-  link-more absent l b false same o t h st = rw (h .0, h .1) (refl, refl)
-  link-more other l b true true o t h st = rw (h .0) (o, refl, st)
-  link-more other l b true false o t h st = rw (h .0) (refl, refl)
-  link-more other l b false same o t h st = rw (h .0, h .1) (refl, refl)
-  link-more (told u) l b mine same o t h st = rw (h .1) (h .0, refl, h .2)
-
-  linked-agrees : (x : Told) (l : Last) (b : Bool) → Link l b x → Agrees s (answered l b) x
+  linked-agrees : (x : Told) (l : Last) (b : Bool) → Link (Stood s) l b x → Agrees s (answered l b) x
   unfolding Link
   linked-agrees absent l b h = rw (h .0, h .1) (record { kind = refl; bytes = refl })
   linked-agrees other l b h = rw (h .0, h .1) (record { kind = refl; bytes = refl })
@@ -102,7 +84,7 @@ module _ (s : List ℕ) (id : ℤ) (k : ℕ) where
   abbrev own : ℤ → ℕ → Fields → List Own
   own last p fs = ownFrom p (entriesOf last fs)
 
-  link-all : (fs : Fields) (last : ℤ) (p : ℕ) (rest : List ℕ) → drop p s ≡ bytesOfFields last fs ++ rest → Link (lastOf (ofType id k) (own last p fs)) (occurs (ofId id) (own last p fs)) (lastIn id k fs)
+  link-all : (fs : Fields) (last : ℤ) (p : ℕ) (rest : List ℕ) → drop p s ≡ bytesOfFields last fs ++ rest → Link (Stood s) (lastOf (ofType id k) (own last p fs)) (occurs (ofId id) (own last p fs)) (lastIn id k fs)
   unfolding Link entriesOf ownFrom lastOf occurs lastIn bytesOfFields
   link-all no-fields last p rest d = (refl, refl)
   link-all (val.field i t fs) last p rest d =
@@ -114,7 +96,7 @@ module _ (s : List ℕ) (id : ℤ) (k : ℕ) where
       let d₃ : drop (p + length hs + length vs) s ≡ bs ++ rest = behind s (p + length hs) vs (bs ++ rest) d₂ in
       let at : slice (p + length hs) (p + length hs + length vs) s ≡ vs = sym (take-drop (p + length hs) (length vs) s) ∙ ap (take (length vs)) d₂ ∙ take-at vs (bs ++ rest) (length vs) refl in
       rw (same-type t)
-      (link-more (lastIn id k fs) _ _ (sameId i id) (eqb (typeCode (typeOf t)) k) (owned p (record { id = i; what = readable t; head = length hs; size = length vs })) t (link-all fs i (p + length hs + length vs) rest d₃) (record { is = refl; at = at }))
+      (link-more (Stood s) (lastIn id k fs) _ _ (sameId i id) (eqb (typeCode (typeOf t)) k) (owned p (record { id = i; what = readable t; head = length hs; size = length vs })) t (link-all fs i (p + length hs + length vs) rest d₃) (record { is = refl; at = at }))
 
   -- the row of a wanted id and type: the kind and the value's bytes of the last field of them
   pub told-by : (fs : Fields) (last : ℤ) (p : ℕ) (rest : List ℕ) → drop p s ≡ bytesOfFields last fs ++ rest → Agrees s (answer id k (ownFrom p (entriesOf last fs))) (lastIn id k fs)

@@ -1,3 +1,5 @@
 pub mod Entries
+pub mod Link
 pub mod Answers
 pub mod Insertion
+pub mod Read
