@@ -30,13 +30,13 @@ use Rattle.heads.proofs.Readers.{int8-lawful, int16-lawful, int32-lawful, int64
 use Rattle.input.specs.State.{State, gate, movedTo, entered}
 use Rattle.input.specs.Outcome.{Outcome, says, refuses, answers, declines, from, calls, stays, element, bools, onField}
 use Rattle.input.specs.Answers.{asBool, asI8, asI16, asI32, asI64, asDouble, asPart, asList, asMap, asField}
-use Rattle.input.specs.Calls.{readBool, readI8, readI16, readI32, readI64, readDouble, readUuid, readBytes, readString, readList, readSet, readMap, readField, uuidPart, bytesPart, stringPart}
+use Rattle.input.specs.Calls.{readBool, readI8, readI16, readI32, readI64, readDouble, readUuid, readBytes, readString, readList, readMap, readField, uuidPart, bytesPart, stringPart}
 use Rattle.input.specs.declared.Awaited.the-variants as W
 use Rattle.input.proofs.Laws.{gate-free}
 use Rattle.input.proofs.Handed.{uuid-handed, bytes-handed, string-handed}
 use Rattle.laws.specs.Text.{Form, binaries, strings, Plan, under, keyUnder, valueUnder, Fits, Texts, TextsAll, TextsPairs, TextsFields}
 use Rattle.laws.specs.Reading.{Took, took, halted, andOn, made, ofBool, ofI8, ofI16, ofI32, ofI64, ofDouble, ofPart, ofList, ofMap, aBool, anI8, anI16, anI32, anI64, aDouble, aUuid, aString, aList, aSet, aMap, aBegin, anEnd, readAll, readPairs, behindHeader, readFields, Holders, holding, none, byType, holders, readLevels, readOf}
-use Rattle.laws.proofs.Reading.{Kept, Gave, Ready, ready-on, is-fine, is-free, there, list-gave, set-gave, map-gave, behind, ready-header, taken-bool, headed-is, begin-is, ready-in, read-tree}
+use Rattle.laws.proofs.Reading.{Kept, Gave, Ready, ready-on, is-fine, is-free, there, list-gave, set-is, set-gave, map-gave, behind, ready-header, taken-bool, headed-is, begin-is, ready-in, read-tree}
 
 -- a row of calls that gives something, taken apart
 no-took : {A X : Type 0} {why : ℕ} {a : A} {st : State} → _≡_ {A = Took A} (halted why) (took a st) → X
@@ -152,8 +152,7 @@ module _ (s : List ℕ) (lim : TConfiguration) (ok : inRange lim ≡ true) where
     list-seen h next f = under-lim items h (answered (items (st .limits)) (items-lawful (st .limits)) _ (opened (λ x. items (x .limits)) stays) (λ o. ofList (asList o .answer) (asList o .state)) (λ why. refl) (λ a e x g. refl) h next f)
 
     set-seen : (h : TType × ℕ) (next : State) → aSet s st ≡ took h next → Seen (items lim) h st
-    unfolding readSet
-    set-seen h next f = under-lim items h (answered (items (st .limits)) (items-lawful (st .limits)) _ (opened (λ x. items (x .limits)) stays) (λ o. ofList (asList o .answer) (asList o .state)) (λ why. refl) (λ a e x g. refl) h next f)
+    set-seen h next f = list-seen h next (sym (set-is s lim ok depth st r d) ∙ f)
 
     map-seen : (h : TType × TType × ℕ) (next : State) → aMap s st ≡ took h next → Seen (pairs lim) h st
     unfolding readMap

@@ -5,11 +5,12 @@ use mathlib.Core.Bool.{true}
 use mathlib.Core.List.{List, _++_}
 use Prim.Native.Nat.{ℕ, _+_, _-_, _≤_}
 use native.Mathlib.Omega.{arith}
-use lib.ListN.{length, take, drop, take-append-drop}
-use lib.Seq.{slice, length-slice, drop-append-le, length-take-le}
+use lib.ListN.{length, take, drop, length-drop, take-append-drop}
+use lib.Seq.{length-take-le}
 use Rattle.types.specs.declared.TType.{TType}
 use Rattle.types.specs.Value.{Tree, nesting}
 use Rattle.numbers.specs.Varint.{got}
+use Rattle.numbers.proofs.Found.{take-drop}
 use Rattle.heads.specs.Reader.{readAt}
 use Rattle.heads.specs.Answers.{place}
 use Rattle.heads.specs.Spells.{Spells, Formed}
@@ -26,11 +27,6 @@ use Rattle.laws.proofs.Texts.{as-bytes, no-texts}
 use Rattle.laws.proofs.Reading.{Gave, Ready, read-of}
 use Rattle.laws.proofs.Exact.{Read, was-formed}
 
--- the bytes from a place on: those up to another, and those behind it
-behind-slice : (s : List ℕ) (at e : ℕ) → at ≤ e → e ≤ length s → drop at s ≡ slice at e s ++ drop e s
-behind-slice s at e h k =
-    ap (drop at) (sym (take-append-drop e s)) ∙ drop-append-le at (take e s) (drop e s) (omega (arith, length-take-le e s k))
-
 -- a reader that is sound for its input, with no bool pending (the array of ids has 64 places, as its type says)
 module _ (s : List ℕ) (st : State) (ok : sound (length s) st ≡ true) (free : st .pending .0 ≡ W.Nothing) (ids : length (st .ids) ≡ 64) where
   pub ready : Ready s (st .limits) (st .depth) st
@@ -41,9 +37,9 @@ module _ (s : List ℕ) (st : State) (ok : sound (length s) st ≡ true) (free :
   formed-read plan ty n f x =
       let at = st .place .0 in
       let q = is-sound (length s) st ok in
-      let l : length (slice at (at + n) s) ≡ n = length-slice at (at + n) s (f .inside) ∙ omega arith in
+      let l : length (take n (drop at s)) ≡ n = length-take-le n (drop at s) (omega (arith, f .inside, length-drop at s)) in
       subst (λ (m : ℕ). Gave (readOf s ty plan st) (f .tree) st m (st .last)) l
-      (read-of s (st .limits) (q .limits) plan (f .tree) (roomOf st) (st .depth) ty (slice at (at + n) s) (drop (at + n) s) st (f .spelt) x ready (omega (arith, q .deep)) (behind-slice s at (at + n) (f .start) (f .inside)))
+      (read-of s (st .limits) (q .limits) plan (f .tree) (roomOf st) (st .depth) ty (take n (drop at s)) (drop n (drop at s)) st (subst (Spells (f .tree) (st .limits) (roomOf st) ty) (sym (take-drop at n s)) (f .spelt)) x ready (omega (arith, q .deep)) (sym (take-append-drop n (drop at s))))
 
   -- and back: a value that the calls read, nested no deeper than skip goes, stood there well formed
   pub read-formed : (plan : Plan) (ty : TType) (t : Tree) (next : State) → readOf s ty plan st ≡ took t next → nesting t ≤ roomOf st → Read s (st .limits) (is-sound (length s) st ok .limits) (roomOf st) plan ty t st next

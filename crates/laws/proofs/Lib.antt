@@ -2,6 +2,7 @@ pub mod Table
 pub mod Spelt
 pub mod Back
 pub mod Readable
+pub mod Kept
 pub mod Writing
 pub mod Texts
 pub mod Reading

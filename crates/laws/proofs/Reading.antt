@@ -9,8 +9,8 @@ use native.Mathlib.Nat.{add-zero}
 use native.Mathlib.Omega.{arith}
 use borrow.Author.Tests.{eq-eqb, ne-eqb, lt-leb}
 use lib.Dec.{eqb, leb}
-use lib.ListN.{length, drop, getD, set, length-append, length-drop, length-set}
-use lib.Seq.{getD-set-same, getD-set-other, drop-drop, drop-append-seam}
+use lib.ListN.{length, drop, length-append, length-drop, length-set}
+use lib.Seq.{drop-drop, drop-append-seam}
 use lib.IntN.{ℤ, pos}
 use Rattle.types.specs.Limits.{inRange}
 use Rattle.types.specs.declared.TType.{TType}
@@ -39,26 +39,20 @@ use Rattle.input.specs.declared.ReadField.{ReadField}
 use Rattle.input.proofs.Gate.{Sound, sound-is}
 use Rattle.input.proofs.Laws.{busy, gate-free, read-well}
 use Rattle.input.proofs.Handed.{uuid-handed, bytes-handed, string-handed, name-handed}
+use Rattle.laws.proofs.Kept as kept
+use Rattle.laws.proofs.Kept.{Stand}
 use Rattle.laws.specs.Text.{Form, binaries, strings, Plan, under, keyUnder, valueUnder, Fits, Texts, TextsAll, TextsPairs, TextsFields}
 use Rattle.laws.specs.Reading.{Took, took, halted, andOn, made, ofBool, ofI8, ofI16, ofI32, ofI64, ofDouble, ofPart, ofList, ofMap, ofDone, ofMessage, aBool, anI8, anI16, anI32, anI64, aDouble, aUuid, aString, aList, aSet, aMap, aBegin, anEnd, aMessage, readAll, readPairs, behindHeader, readFields, Holders, holding, byType, holders, readLevels, readOf, readWhole}
 
 -- n bytes on, with the same depth, limits and ids below the depth
-pub record Kept (st next : State) (n : ℕ) : Type 0 where
-  pub there : next .place .0 ≡ st .place .0 + n
-  pub deep : next .depth ≡ st .depth
-  pub lims : next .limits ≡ st .limits
-  pub long : length (next .ids) ≡ length (st .ids)
-  pub below : (i : ℕ) → i < st .depth → getD (next .ids) i (pos 0) ≡ getD (st .ids) i (pos 0)
+abbrev pub stand : State → Stand
+stand st = record { at = st .place .0; depth = st .depth; limits = st .limits; ids = st .ids }
+
+abbrev pub Kept : State → State → ℕ → Type 0
+Kept st next n = kept.Kept (stand st) (stand next) n
 
 kept-then : (a b c : State) (n m : ℕ) → Kept a b n → Kept b c m → Kept a c (n + m)
-kept-then a b c n m f g =
-    record {
-      there = omega (arith, f .there, g .there);
-      deep = g .deep ∙ f .deep;
-      lims = g .lims ∙ f .lims;
-      long = g .long ∙ f .long;
-      below = λ i h. g .below i (omega (arith, f .deep)) ∙ f .below i h;
-    }
+kept-then a b c n m f g = kept.kept-then (stand a) (stand b) (stand c) n m f g
 
 -- what a row of calls gives: a, n bytes on, with this last id and no bool pending
 pub record Gave {A : Type 0} (x : Took A) (a : A) (st : State) (n : ℕ) (last : FieldId) : Type 0 where
@@ -197,10 +191,13 @@ module _ (s : List ℕ) (lim : TConfiguration) (ok : inRange lim ≡ true) where
     list-gave t n bs rest w e =
         called (λ x. items (x .limits)) (items-lawful (st .limits)) (λ o. ofList (asList o .answer) (asList o .state)) (t, n) (t, n) bs rest (λ n. refl) (there items (t, n) bs w) e
 
+    -- "List, set": one header
+    pub set-is : aSet s st ≡ aList s st
+    unfolding readList readSet
+    set-is = refl
+
     pub set-gave : (t : TType) (n : ℕ) (bs rest : List ℕ) → Whole (items lim) (t, n) bs → drop (st .place .0) s ≡ bs ++ rest → Gave (aSet s st) (t, n) st (length bs) (st .last)
-    unfolding readSet
-    set-gave t n bs rest w e =
-        called (λ x. items (x .limits)) (items-lawful (st .limits)) (λ o. ofList (asList o .answer) (asList o .state)) (t, n) (t, n) bs rest (λ n. refl) (there items (t, n) bs w) e
+    set-gave t n bs rest w e = subst (λ (x : Took (TType × ℕ)). Gave x (t, n) st (length bs) (st .last)) (sym set-is) (list-gave t n bs rest w e)
 
     pub map-gave : (k v : TType) (n : ℕ) (bs rest : List ℕ) → Whole (pairs lim) (k, v, n) bs → drop (st .place .0) s ≡ bs ++ rest → Gave (aMap s st) (k, v, n) st (length bs) (st .last)
     unfolding readMap
@@ -342,30 +339,14 @@ module _ (s : List ℕ) (lim : TConfiguration) (ok : inRange lim ≡ true) where
         one-down : last-in .depth ≡ st .depth + 1
         one-down = g .gave .kept .deep
 
-        up-again : last-in .depth - 1 ≡ st .depth
-        up-again = omega (arith, one-down)
-
         end-is : anEnd s last-in ≡ took tt (left last-in)
         unfolding structEnd ends
         end-is =
             let q = gate-free (length s) last-in (is-fine (suc depth) last-in ready-out (omega arith)) (is-free (suc depth) last-in ready-out) in
             rw (eq-eqb (gate (length s) last-in) 0 q, ne-eqb (last-in .depth) 0 (λ e. omega (arith, one-down)))
 
-        saved : getD (last-in .ids) (last-in .depth - 1) (pos 0) ≡ st .last .0
-        saved =
-            ap (λ (i : ℕ). getD (last-in .ids) i (pos 0)) up-again
-            ∙ g .gave .kept .below (st .depth) (omega arith)
-            ∙ getD-set-same (st .ids) (st .depth) (st .last .0) (pos 0) (rw (r .ids, r .deep) (omega (arith, ranged lim ok .deep)))
-
-        struct-kept : Kept st (left last-in) n
-        struct-kept =
-            record {
-              there = g .gave .kept .there;
-              deep = up-again;
-              lims = g .gave .kept .lims;
-              long = g .gave .kept .long ∙ length-set (st .ids) (st .depth) (st .last .0);
-              below = λ i h. g .gave .kept .below i (omega arith) ∙ getD-set-other (st .ids) (st .depth) i (st .last .0) (pos 0) (λ e. omega arith);
-            }
+        room-for-id : st .depth < length (st .ids)
+        room-for-id = rw (r .ids, r .deep) (omega (arith, ranged lim ok .deep))
 
         struct-gave : Gave (andOn (aBegin s st) (λ u to. andOn (x to) (λ fs on. made (λ w. val.struct fs) (anEnd s on)))) (val.struct fs) st n (st .last)
         struct-gave =
@@ -375,8 +356,8 @@ module _ (s : List ℕ) (lim : TConfiguration) (ok : inRange lim ≡ true) where
                   ap (λ (y : Took (Unit {0})). andOn y (λ u to. andOn (x to) (λ fs on. made (λ w. val.struct fs) (anEnd s on)))) begin-is
                   ∙ ap (λ (y : Took Fields). andOn y (λ fs on. made (λ w. val.struct fs) (anEnd s on))) (g .gave .is)
                   ∙ ap (made (λ (w : Unit {0}). val.struct fs)) end-is;
-              kept = struct-kept;
-              ends = ap idOf saved;
+              kept = kept.struct-kept (stand st) (stand last-in) (st .last .0) n room-for-id (g .gave .kept);
+              ends = ap idOf (kept.saved (stand st) (stand last-in) (st .last .0) n room-for-id (g .gave .kept));
               free = g .gave .free;
             }
 

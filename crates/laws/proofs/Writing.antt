@@ -8,8 +8,7 @@ use native.Mathlib.Nat.{add-zero}
 use native.Mathlib.Omega.{arith}
 use borrow.Author.Tests.{eq-eqb, ne-eqb, le-leb, lt-leb, le-ltb}
 use lib.Dec.{eqb, leb}
-use lib.ListN.{length, getD, set, length-append, length-set}
-use lib.Seq.{getD-set-same, getD-set-other}
+use lib.ListN.{length, length-append, length-set}
 use lib.IntN.{ℤ, pos}
 use Rattle.types.specs.Codes.{typeCode, truthCode}
 use Rattle.types.specs.declared.TType.{TType}
@@ -38,6 +37,8 @@ use Rattle.output.proofs.Laws.{Went, goes}
 use Rattle.laws.specs.Written.{fieldCode, inHeader, bytesOf, bytesOfAll, bytesOfPairs, bytesOfFields, bytesOfWhole, HeaderWithin}
 use Rattle.laws.specs.Text.{Form, binaries, strings, Plan, under, keyUnder, valueUnder, Fits, Texts, TextsAll, TextsPairs, TextsFields}
 use Rattle.laws.specs.Writing.{Step, Ran, ran, stopped, goOn, run, writeString, writeOf, writeAll, writePairs, writeFields, writeWhole}
+use Rattle.laws.proofs.Kept as kept
+use Rattle.laws.proofs.Kept.{Stand}
 use Rattle.laws.proofs.Spelt.{InField, truthful, valued, in-field}
 
 -- a row of calls writes these bytes and ends in this state, wherever there is room
@@ -45,22 +46,14 @@ unfoldable pub Runs : List Step → List ℕ → State → State → Type 0
 Runs cs bs st next = (buf : List ℕ) → Ranged (st .limits) → st .depth ≤ st .limits .depth → st .place .0 + length bs ≤ length buf → run cs buf st ≡ ran (putAt buf (st .place .0) bs) next
 
 -- n bytes on, with the same depth, limits and ids below the depth
-pub record Kept (st next : State) (n : ℕ) : Type 0 where
-  pub there : next .place .0 ≡ st .place .0 + n
-  pub deep : next .depth ≡ st .depth
-  pub lims : next .limits ≡ st .limits
-  pub long : length (next .ids) ≡ length (st .ids)
-  pub below : (i : ℕ) → i < st .depth → getD (next .ids) i (pos 0) ≡ getD (st .ids) i (pos 0)
+abbrev pub stand : State → Stand
+stand st = record { at = st .place .0; depth = st .depth; limits = st .limits; ids = st .ids }
+
+abbrev pub Kept : State → State → ℕ → Type 0
+Kept st next n = kept.Kept (stand st) (stand next) n
 
 pub kept-then : (a b c : State) (n m : ℕ) → Kept a b n → Kept b c m → Kept a c (n + m)
-kept-then a b c n m f g =
-    record {
-      there = omega (arith, f .there, g .there);
-      deep = g .deep ∙ f .deep;
-      lims = g .lims ∙ f .lims;
-      long = g .long ∙ f .long;
-      below = λ i h. g .below i (omega (arith, f .deep)) ∙ f .below i h;
-    }
+kept-then a b c n m f g = kept.kept-then (stand a) (stand b) (stand c) n m f g
 
 ran-buf : {b c : List ℕ} {s t : State} → ran b s ≡ ran c t → b ≡ c
 ran-buf e = cc
@@ -271,9 +264,6 @@ module _ (st : State) (fs : List Step) (bs : List ℕ) (f : st .pending .0 ≡ A
     abbrev outside : State
     outside = movedTo (ended last-in) (last-in .place .0 + 0)
 
-    up-again : last-in .depth - 1 ≡ st .depth
-    up-again = omega (arith, one-down)
-
     struct-runs : Runs (structBeginCall ∷ (fs ++ (structEndCall ∷ []))) bs st outside
     struct-runs =
         subst (λ (x : List ℕ). Runs (structBeginCall ∷ (fs ++ (structEndCall ∷ []))) x st outside) (append-nil bs)
@@ -283,53 +273,64 @@ module _ (st : State) (fs : List Step) (bs : List ℕ) (f : st .pending .0 ≡ A
         (runs-on fs (structEndCall ∷ []) bs [] inside last-in outside (w .runs) (λ x. moved inside last-in (length bs) x (w .kept))
         (runs-one structEndCall (inTurn last-in (endWrong last-in)) [] last-in (ended last-in) refl end-right)))
 
-    saved : getD (last-in .ids) (last-in .depth - 1) (pos 0) ≡ st .last .0
-    saved =
-        ap (λ (i : ℕ). getD (last-in .ids) i (pos 0)) up-again
-        ∙ w .kept .below (st .depth) (omega arith)
-        ∙ getD-set-same (st .ids) (st .depth) (st .last .0) (pos 0) l
+    -- begun and ended where it stands
+    whole-kept : kept.Kept (kept.begun (stand st) (stand last-in) (st .last .0) (length bs) l) (stand last-in) (length bs)
+    whole-kept = record { there = omega (arith, w .kept .there); deep = w .kept .deep; lims = w .kept .lims; long = w .kept .long; below = w .kept .below }
 
-    struct-kept : Kept st outside (length bs)
-    struct-kept =
-        record {
-          there = omega (arith, w .kept .there);
-          deep = up-again;
-          lims = w .kept .lims;
-          long = w .kept .long ∙ length-set (st .ids) (st .depth) (st .last .0);
-          below = λ i h. w .kept .below i (omega arith) ∙ getD-set-other (st .ids) (st .depth) i (st .last .0) (pos 0) (λ e. omega arith);
-        }
+    outside-kept : Kept st outside (length bs)
+    outside-kept = let k = kept.struct-kept (stand st) (stand last-in) (st .last .0) (length bs) l whole-kept in record { there = omega (arith, k .there); deep = k .deep; lims = k .lims; long = k .long; below = k .below }
 
     pub struct-wrote : Wrote (structBeginCall ∷ (fs ++ (structEndCall ∷ []))) bs st
     struct-wrote =
         record {
           next = outside;
           runs = struct-runs;
-          kept = struct-kept;
-          same-last = ap idOf saved;
+          kept = outside-kept;
+          same-last = ap idOf (kept.saved (stand st) (stand last-in) (st .last .0) (length bs) l whole-kept);
           free = w .free;
         }
 
 -- one field and those behind it
-field-wrote : (plan : Plan) (st : State) (last id : ℤ) (t : Tree) (fs : Fields) → st .last .0 ≡ last → st .pending .0 ≡ A.Nothing → InField t → ((b : State) → Kept st b (length (fieldBytes last id (fieldCode t))) → b .last .0 ≡ id → b .pending .0 ≡ A.Nothing → Wrote (writeOf (under plan id) t) (bytesOf t) b) → ((b : State) (n : ℕ) → Kept st b n → b .last .0 ≡ id → b .pending .0 ≡ A.Nothing → Fielded (writeFields plan fs) (bytesOfFields id fs) b) → Fielded (writeFields plan (val.field id t fs)) (bytesOfFields last (val.field id t fs)) st
-unfolding writeOf writeFields bytesOfFields typeOf
-field-wrote plan st last id t fs e f (truthful b q) wv wf =
-    let bs : List ℕ = fieldBytes last id (truthCode b) in
-    let mid : State = movedTo (headed (movedTo (awaiting st (idOf id)) (st .place .0 + 0)) (idOf id)) (st .place .0 + 0 + length bs) in
-    let k : Kept st mid (length bs) = record { there = omega arith; deep = refl; lims = refl; long = refl; below = λ i h. refl } in
-    rw q
-    (fields-on ((λ s. fieldCall s T.Bool (idOf id)) ∷ ((λ s. boolCall s b) ∷ [])) (writeFields plan fs) bs (bytesOfFields id fs) st mid
-    (bool-field st id b f bs (ap (λ (z : ℤ). fieldBytes z id (truthCode b)) (sym e))) k (wf mid (length bs) k refl refl))
-field-wrote plan st last id t fs e f (valued n c k) wv wf =
-    let bs : List ℕ = fieldBytes last id (typeCode (typeOf t)) in
-    let mid : State = behind-header st id (length bs) in
-    let km : Kept st mid (length bs) = kept-header st id (length bs) in
-    let v = wv mid (rw c km) refl refl in
-    let kv = kept-then st mid (v .next) (length bs) (length (bytesOf t)) km (v .kept) in
-    let r : Runs ((λ s. fieldCall s (typeOf t) (idOf id)) ∷ []) bs st mid = subst (λ (z : ℤ). Runs ((λ s. fieldCall s (typeOf t) (idOf id)) ∷ []) (fieldBytes z id (typeCode (typeOf t))) st (behind-header st id (length (fieldBytes z id (typeCode (typeOf t)))))) e (value-field st id (typeOf t) f k) in
-    rw (n, c)
-    (fields-on ((λ s. fieldCall s (typeOf t) (idOf id)) ∷ []) (writeOf (under plan id) t ++ writeFields plan fs) bs (bytesOf t ++ bytesOfFields id fs) st mid r km
-    (fields-on (writeOf (under plan id) t) (writeFields plan fs) (bytesOf t) (bytesOfFields id fs) mid (v .next) (v .runs) (v .kept)
-    (wf (v .next) (length bs + length (bytesOf t)) kv (ap (λ (x : FieldId). x .0) (v .same-last)) (v .free))))
+module _ (plan : Plan) (st : State) (last id : ℤ) (fs : Fields) (e : st .last .0 ≡ last) (f : st .pending .0 ≡ A.Nothing) (wf : (b : State) (n : ℕ) → Kept st b n → b .last .0 ≡ id → b .pending .0 ≡ A.Nothing → Fielded (writeFields plan fs) (bytesOfFields id fs) b) where
+  -- a bool, whose value stands in the header
+  truth-wrote : (b : Bool) → Fielded (writeFields plan (val.field id (val.truth b) fs)) (bytesOfFields last (val.field id (val.truth b) fs)) st
+  unfolding writeOf writeFields bytesOfFields typeOf
+  truth-wrote b =
+      let bs : List ℕ = fieldBytes last id (truthCode b) in
+      let mid : State = behind-header (movedTo (awaiting st (idOf id)) (st .place .0 + 0)) id (length bs) in
+      let k : Kept st mid (length bs) = record { there = omega arith; deep = refl; lims = refl; long = refl; below = λ i h. refl } in
+      fields-on ((λ s. fieldCall s T.Bool (idOf id)) ∷ ((λ s. boolCall s b) ∷ [])) (writeFields plan fs) bs (bytesOfFields id fs) st mid
+      (bool-field st id b f bs (ap (λ (z : ℤ). fieldBytes z id (truthCode b)) (sym e))) k (wf mid (length bs) k refl refl)
+
+  -- any other, whose value stands behind it
+  module _ (t : Tree) (n : inHeader t ≡ false) (c : fieldCode t ≡ typeCode (typeOf t)) (k : 2 < typeCode (typeOf t)) (wv : (b : State) (n : ℕ) → Kept st b n → b .pending .0 ≡ A.Nothing → Wrote (writeOf (under plan id) t) (bytesOf t) b) where
+    value-bytes : fieldBytes last id (typeCode (typeOf t)) ++ (bytesOf t ++ bytesOfFields id fs) ≡ bytesOfFields last (val.field id t fs)
+    unfolding bytesOfFields
+    value-bytes = rw (n, c)
+
+    value-head : (bs : List ℕ) → bs ≡ fieldBytes last id (typeCode (typeOf t)) → Runs ((λ s. fieldCall s (typeOf t) (idOf id)) ∷ []) bs st (behind-header st id (length bs))
+    value-head bs q =
+        subst (λ (x : List ℕ). Runs ((λ s. fieldCall s (typeOf t) (idOf id)) ∷ []) x st (behind-header st id (length x))) (ap (λ (z : ℤ). fieldBytes z id (typeCode (typeOf t))) e ∙ sym q) (value-field st id (typeOf t) f k)
+
+    -- behind a header of these bytes
+    value-on : (bs : List ℕ) → Runs ((λ s. fieldCall s (typeOf t) (idOf id)) ∷ []) bs st (behind-header st id (length bs)) → (v : Wrote (writeOf (under plan id) t) (bytesOf t) (behind-header st id (length bs))) → Fielded ((λ s. fieldCall s (typeOf t) (idOf id)) ∷ (writeOf (under plan id) t ++ writeFields plan fs)) (bs ++ (bytesOf t ++ bytesOfFields id fs)) st
+    value-on bs r v =
+        let mid : State = behind-header st id (length bs) in
+        let km = kept-header st id (length bs) in
+        fields-on ((λ s. fieldCall s (typeOf t) (idOf id)) ∷ []) (writeOf (under plan id) t ++ writeFields plan fs) bs (bytesOf t ++ bytesOfFields id fs) st mid r km
+        (fields-on (writeOf (under plan id) t) (writeFields plan fs) (bytesOf t) (bytesOfFields id fs) mid (v .next) (v .runs) (v .kept)
+        (wf (v .next) (length bs + length (bytesOf t)) (kept-then st mid (v .next) (length bs) (length (bytesOf t)) km (v .kept)) (ap (λ (x : FieldId). x .0) (v .same-last)) (v .free)))
+
+    value-wrote : Fielded (writeFields plan (val.field id t fs)) (bytesOfFields last (val.field id t fs)) st
+    unfolding writeFields
+    value-wrote =
+        let bs : List ℕ = fieldBytes last id (typeCode (typeOf t)) in
+        subst (λ (x : List ℕ). Fielded (writeFields plan (val.field id t fs)) x st) value-bytes
+        (value-on bs (value-head bs refl) (wv (behind-header st id (length bs)) (length bs) (kept-header st id (length bs)) refl))
+
+  field-wrote : (t : Tree) → InField t → ((b : State) (n : ℕ) → Kept st b n → b .pending .0 ≡ A.Nothing → Wrote (writeOf (under plan id) t) (bytesOf t) b) → Fielded (writeFields plan (val.field id t fs)) (bytesOfFields last (val.field id t fs)) st
+  field-wrote t (truthful b q) wv = subst (λ (u : Tree). Fielded (writeFields plan (val.field id u fs)) (bytesOfFields last (val.field id u fs)) st) (sym q) (truth-wrote b)
+  field-wrote t (valued n c k) wv = value-wrote t n c k wv
 
 element-is : (st : State) (b : Bool) → st .pending .0 ≡ A.Nothing → boolCall st b ≡ call 0 (truthCode b ∷ []) st
 unfolding boolCall
@@ -424,9 +425,10 @@ module _ (lim : TConfiguration) (ok : Ranged lim) where
     wrote-fields : (plan : Plan) (fs : Fields) (depth : ℕ) (st : State) (last : ℤ) → Ready lim depth st → st .last .0 ≡ last → depth + nestingFields fs ≤ lim .depth → SizedFields lim fs → TypedFields fs → TextsFields plan fs → Fielded (writeFields plan fs) (bytesOfFields last fs) st
     wrote-fields plan no-fields depth st last r e n s y x = ended-fields st (r .free)
     wrote-fields plan (val.field id t fs) depth st last r e n s y x =
-        field-wrote plan st last id t fs e (r .free) (in-field t)
-        (λ b k q p. wrote (under plan id) t depth b (ready-on lim depth st b _ r k p) (omega arith) (s .0) (y .1) (x .0))
+        field-wrote plan st last id fs e (r .free)
         (λ b m k q p. wrote-fields plan fs depth b id (ready-on lim depth st b m r k p) q (omega arith) (s .1) (y .2) (x .1))
+        t (in-field t)
+        (λ b m k p. wrote (under plan id) t depth b (ready-on lim depth st b m r k p) (omega arith) (s .0) (y .1) (x .0))
 
   -- a whole message: its header with the name, then its struct. "Writing it doesn't" set the last id.
   pub wrote-whole : (plan : Plan) (m : TMessageType) (z : SeqNo) (name : List ℕ) (fs : Fields) (depth : ℕ) (st : State) → Ready lim depth st → HeaderWithin lim z name → Within lim depth (val.struct fs) → Texts plan (val.struct fs) → Wrote (writeWhole plan m z name fs) (bytesOfWhole m z name fs) st
