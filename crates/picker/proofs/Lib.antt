@@ -5,3 +5,4 @@ pub mod Rows
 pub mod Call
 pub mod Laws
 pub mod Went
+pub mod Table
