@@ -1,12 +1,12 @@
 -- What the calls read is well formed: a value that they give, nested no deeper than skip goes, is spelt by the bytes that they took. Assumes nothing.
 use mathlib.Core.Path.{_≡_, refl, sym, ap, ap₂, subst, _∙_}
 use mathlib.Core.Bool.{Bool, true, false}
-use mathlib.Core.Logic.{_⊎_, inl, inr}
-use mathlib.Core.List.{List, [], _∷_, _++_}
-use Prim.Native.Nat.{ℕ, zero, suc, _+_, _-_, _≤_, _<_, max}
+use mathlib.Core.Logic.{inl, inr}
+use mathlib.Core.List.{List, [], _++_}
+use Prim.Native.Nat.{ℕ, zero, suc, _+_, _-_, _≤_, _<_}
 use native.Mathlib.Omega.{arith}
 use borrow.Author.Tests.{eq-eqb}
-use lib.ListN.{length, take, drop, length-drop, length-append, take-append-drop}
+use lib.ListN.{length, take, drop, length-drop, take-append-drop}
 use lib.Seq.{take-add, drop-drop, length-take-le}
 use lib.IntN.{ℤ, pos}
 use Rattle.types.specs.Refusals.{BAD-UTF8}
@@ -17,18 +17,18 @@ use Rattle.types.specs.declared.TConfiguration.{TConfiguration}
 use Rattle.types.specs.declared.FieldId.{FieldId}
 use Rattle.types.specs.Value as val
 use Rattle.types.specs.Value.{Tree, Trees, no-trees, tree, Pairs, no-pairs, pair, Fields, no-fields, size, sizeP, nesting, nestingAll, nestingPairs, nestingFields}
-use Rattle.numbers.specs.Varint.{Found, got, refused, placed}
+use Rattle.numbers.specs.Varint.{Found, got, refused}
 use Rattle.numbers.proofs.Found.{take-drop}
 use Rattle.utf8.specs.Utf8.{utf8}
 use Rattle.heads.specs.Reader.{Reader, readAt, Whole, andThen, provided, done}
 use Rattle.heads.specs.Heads.{int8, int16, int32, int64, double, uuid, truth, binary, text, items, pairs, Field, stop, bool, value, field}
-use Rattle.heads.specs.Answers.{place, idOf}
+use Rattle.heads.specs.Answers.{place}
 use Rattle.heads.specs.Spells.{Spells, SpellsAll, SpellsPairs, SpellsFields, Formed}
 use Rattle.heads.proofs.Lawful.{Lawful, both, not-both, whole-of}
-use Rattle.heads.proofs.Steps.{found-at, split, done-at}
+use Rattle.heads.proofs.Steps.{found-at}
 use Rattle.heads.proofs.Readers.{int8-lawful, int16-lawful, int32-lawful, int64-lawful, double-lawful, uuid-lawful, truth-lawful, binary-lawful, text-lawful, items-lawful, pairs-lawful, field-lawful, items-takes, pairs-takes, field-takes}
 use Rattle.input.specs.State.{State, gate, movedTo, entered}
-use Rattle.input.specs.Outcome.{Outcome, says, refuses, answers, declines, from, calls, stays, element, bools, onField}
+use Rattle.input.specs.Outcome.{Outcome, answers, declines, from, calls, stays, element, bools, onField}
 use Rattle.input.specs.Answers.{asBool, asI8, asI16, asI32, asI64, asDouble, asPart, asList, asMap, asField}
 use Rattle.input.specs.Calls.{readBool, readI8, readI16, readI32, readI64, readDouble, readUuid, readBytes, readString, readList, readMap, readField, uuidPart, bytesPart, stringPart}
 use Rattle.input.specs.declared.Awaited.the-variants as W
@@ -36,7 +36,7 @@ use Rattle.input.proofs.Laws.{gate-free}
 use Rattle.input.proofs.Handed.{uuid-handed, bytes-handed, string-handed}
 use Rattle.laws.specs.Text.{Form, binaries, strings, Plan, under, keyUnder, valueUnder, Fits, Texts, TextsAll, TextsPairs, TextsFields}
 use Rattle.laws.specs.Reading.{Took, took, halted, andOn, made, ofBool, ofI8, ofI16, ofI32, ofI64, ofDouble, ofPart, ofList, ofMap, aBool, anI8, anI16, anI32, anI64, aDouble, aUuid, aString, aList, aSet, aMap, aBegin, anEnd, readAll, readPairs, behindHeader, readFields, Holders, holding, none, byType, holders, readLevels, readOf}
-use Rattle.laws.proofs.Reading.{Kept, Gave, Ready, ready-on, is-fine, is-free, there, list-gave, set-is, set-gave, map-gave, behind, ready-header, taken-bool, headed-is, begin-is, ready-in, read-tree}
+use Rattle.laws.proofs.Reading.{Gave, Ready, ready-on, is-fine, is-free, there, list-gave, set-is, set-gave, map-gave, behind, ready-header, taken-bool, headed-is, begin-is, ready-in, read-tree}
 
 -- a row of calls that gives something, taken apart
 no-took : {A X : Type 0} {why : ℕ} {a : A} {st : State} → _≡_ {A = Took A} (halted why) (took a st) → X

@@ -3,6 +3,7 @@ pub mod Spelt
 pub mod Back
 pub mod Readable
 pub mod Kept
+pub mod Nested
 pub mod Writing
 pub mod Texts
 pub mod Reading
