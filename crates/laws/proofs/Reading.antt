@@ -216,7 +216,7 @@ module _ (s : List ℕ) (lim : TConfiguration) (ok : inRange lim ≡ true) where
         }
 
     -- a message's header with its name: "Reading it sets the last field id to 0"
-    message-gave : (m : Message) (bs rest : List ℕ) → Whole (message lim) m bs → drop (st .place .0) s ≡ bs ++ rest → Gave (aMessage s st) m st (length bs) (idOf (pos 0))
+    pub message-gave : (m : Message) (bs rest : List ℕ) → Whole (message lim) m bs → drop (st .place .0) s ≡ bs ++ rest → Gave (aMessage s st) m st (length bs) (idOf (pos 0))
     unfolding readMessage
     message-gave m bs rest w e =
         let v = there message m bs w in
