@@ -40,14 +40,14 @@ use Rattle.laws.specs.Reading.{Took, took, halted, andOn, made, ofBool, 
 use Rattle.laws.proofs.Reading.{Gave, Ready, ready-on, is-fine, is-free, there, list-gave, set-is, set-gave, map-gave, message-gave, behind, ready-header, taken-bool, headed-is, begin-is, ready-in, read-tree}
 
 -- a row of calls that gives something, taken apart
-no-took : {A X : Type 0} {why : ℕ} {a : A} {st : State} → _≡_ {A = Took A} (halted why) (took a st) → X
+pub no-took : {A X : Type 0} {why : ℕ} {a : A} {st : State} → _≡_ {A = Took A} (halted why) (took a st) → X
 no-took e = let z : _≡_ {A = ℕ} 0 1 = cc in absurd (omega arith)
 
-parts : {A B X : Type 0} (x : Took A) (k : A → State → Took B) (b : B) (next : State) → ((a : A) (mid : State) → x ≡ took a mid → k a mid ≡ took b next → X) → andOn x k ≡ took b next → X
+pub parts : {A B X : Type 0} (x : Took A) (k : A → State → Took B) (b : B) (next : State) → ((a : A) (mid : State) → x ≡ took a mid → k a mid ≡ took b next → X) → andOn x k ≡ took b next → X
 parts (took a st) k b next on e = on a st refl e
 parts (halted why) k b next on e = no-took e
 
-unmade : {A B : Type 0} (P : B → Type 0) (g : A → B) (x : Took A) (b : B) (next : State) → ((a : A) → x ≡ took a next → P (g a)) → made g x ≡ took b next → P b
+pub unmade : {A B : Type 0} (P : B → Type 0) (g : A → B) (x : Took A) (b : B) (next : State) → ((a : A) → x ≡ took a next → P (g a)) → made g x ≡ took b next → P b
 unmade P g (took a st) b next on e =
     let q : g a ≡ b = cc in
     let n : st ≡ next = cc in

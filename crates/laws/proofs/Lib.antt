@@ -8,6 +8,7 @@ pub mod Writing
 pub mod Texts
 pub mod Reading
 pub mod Exact
+pub mod Bounds
 pub mod Formed
 pub mod RoundTrip
 pub mod Samples
