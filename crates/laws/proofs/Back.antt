@@ -1,13 +1,12 @@
 -- A value within the limits, as its bytes stand in any input: they are read as it, to the bit, whatever follows, and skip takes exactly them.
 -- Assumes nothing.
-use mathlib.Core.Path.{_≡_, refl, sym, ap, _∙_}
+use mathlib.Core.Path.{_≡_, ap, _∙_}
 use mathlib.Core.List.{List, _++_}
 use Prim.Native.Nat.{ℕ, _+_, _-_, _≤_}
 use native.Mathlib.Omega.{arith}
 use lib.ListN.{length, drop}
-use Rattle.types.specs.declared.TType.{TType}
 use Rattle.types.specs.declared.TConfiguration.{TConfiguration}
-use Rattle.types.specs.Value.{Tree, typeOf, nesting, Within}
+use Rattle.types.specs.Value.{Tree, typeOf, Within}
 use Rattle.types.proofs.Limits.{Ranged}
 use Rattle.numbers.specs.Varint.{got, placed}
 use Rattle.numbers.specs.Answers.{putAt}

@@ -1,12 +1,12 @@
 -- What the calls read is well formed: a value that they give, nested no deeper than skip goes, is spelt by the bytes that they took. Assumes nothing.
 use mathlib.Core.Path.{_≡_, refl, sym, ap, ap₂, subst, _∙_}
 use mathlib.Core.Bool.{Bool, true, false}
-use mathlib.Core.Logic.{_⊎_, inl, inr}
-use mathlib.Core.List.{List, [], _∷_, _++_}
-use Prim.Native.Nat.{ℕ, zero, suc, _+_, _-_, _≤_, _<_, max}
+use mathlib.Core.Logic.{inl, inr}
+use mathlib.Core.List.{List, [], _++_}
+use Prim.Native.Nat.{ℕ, zero, suc, _+_, _-_, _≤_, _<_}
 use native.Mathlib.Omega.{arith}
 use borrow.Author.Tests.{eq-eqb}
-use lib.ListN.{length, take, drop, length-drop, length-append, take-append-drop}
+use lib.ListN.{length, take, drop, length-drop, take-append-drop}
 use lib.Seq.{take-add, drop-drop, length-take-le}
 use lib.IntN.{ℤ, pos}
 use Rattle.types.specs.Refusals.{BAD-UTF8}
@@ -15,38 +15,39 @@ use Rattle.types.specs.declared.TType.{TType}
 use Rattle.types.specs.declared.TType.the-variants as T
 use Rattle.types.specs.declared.TConfiguration.{TConfiguration}
 use Rattle.types.specs.declared.FieldId.{FieldId}
+use Rattle.types.specs.declared.TMessageType.{TMessageType}
 use Rattle.types.specs.Value as val
 use Rattle.types.specs.Value.{Tree, Trees, no-trees, tree, Pairs, no-pairs, pair, Fields, no-fields, size, sizeP, nesting, nestingAll, nestingPairs, nestingFields}
-use Rattle.numbers.specs.Varint.{Found, got, refused, placed}
+use Rattle.numbers.specs.Varint.{Found, got, refused}
 use Rattle.numbers.proofs.Found.{take-drop}
 use Rattle.utf8.specs.Utf8.{utf8}
 use Rattle.heads.specs.Reader.{Reader, readAt, Whole, andThen, provided, done}
-use Rattle.heads.specs.Heads.{int8, int16, int32, int64, double, uuid, truth, binary, text, items, pairs, Field, stop, bool, value, field}
+use Rattle.heads.specs.Heads.{int8, int16, int32, int64, double, uuid, truth, binary, text, items, pairs, Field, stop, bool, value, field, Message, message}
 use Rattle.heads.specs.Answers.{place, idOf}
 use Rattle.heads.specs.Spells.{Spells, SpellsAll, SpellsPairs, SpellsFields, Formed}
 use Rattle.heads.proofs.Lawful.{Lawful, both, not-both, whole-of}
-use Rattle.heads.proofs.Steps.{found-at, split, done-at}
-use Rattle.heads.proofs.Readers.{int8-lawful, int16-lawful, int32-lawful, int64-lawful, double-lawful, uuid-lawful, truth-lawful, binary-lawful, text-lawful, items-lawful, pairs-lawful, field-lawful, items-takes, pairs-takes, field-takes}
+use Rattle.heads.proofs.Steps.{found-at}
+use Rattle.heads.proofs.Readers.{int8-lawful, int16-lawful, int32-lawful, int64-lawful, double-lawful, uuid-lawful, truth-lawful, binary-lawful, text-lawful, items-lawful, pairs-lawful, field-lawful, message-lawful, items-takes, pairs-takes, field-takes}
 use Rattle.input.specs.State.{State, gate, movedTo, entered}
-use Rattle.input.specs.Outcome.{Outcome, says, refuses, answers, declines, from, calls, stays, element, bools, onField}
-use Rattle.input.specs.Answers.{asBool, asI8, asI16, asI32, asI64, asDouble, asPart, asList, asMap, asField}
-use Rattle.input.specs.Calls.{readBool, readI8, readI16, readI32, readI64, readDouble, readUuid, readBytes, readString, readList, readMap, readField, uuidPart, bytesPart, stringPart}
+use Rattle.input.specs.Outcome.{Outcome, answers, declines, from, calls, stays, element, bools, anew, onField}
+use Rattle.input.specs.Answers.{asBool, asI8, asI16, asI32, asI64, asDouble, asPart, asList, asMap, asField, asMessage}
+use Rattle.input.specs.Calls.{readBool, readI8, readI16, readI32, readI64, readDouble, readUuid, readBytes, readString, readList, readMap, readField, readMessage, uuidPart, bytesPart, stringPart, namePart}
 use Rattle.input.specs.declared.Awaited.the-variants as W
 use Rattle.input.proofs.Laws.{gate-free}
-use Rattle.input.proofs.Handed.{uuid-handed, bytes-handed, string-handed}
+use Rattle.input.proofs.Handed.{uuid-handed, bytes-handed, string-handed, name-handed}
 use Rattle.laws.specs.Text.{Form, binaries, strings, Plan, under, keyUnder, valueUnder, Fits, Texts, TextsAll, TextsPairs, TextsFields}
-use Rattle.laws.specs.Reading.{Took, took, halted, andOn, made, ofBool, ofI8, ofI16, ofI32, ofI64, ofDouble, ofPart, ofList, ofMap, aBool, anI8, anI16, anI32, anI64, aDouble, aUuid, aString, aList, aSet, aMap, aBegin, anEnd, readAll, readPairs, behindHeader, readFields, Holders, holding, none, byType, holders, readLevels, readOf}
-use Rattle.laws.proofs.Reading.{Kept, Gave, Ready, ready-on, is-fine, is-free, there, list-gave, set-is, set-gave, map-gave, behind, ready-header, taken-bool, headed-is, begin-is, ready-in, read-tree}
+use Rattle.laws.specs.Reading.{Took, took, halted, andOn, made, ofBool, ofI8, ofI16, ofI32, ofI64, ofDouble, ofPart, ofList, ofMap, ofMessage, aBool, anI8, anI16, anI32, anI64, aDouble, aUuid, aString, aList, aSet, aMap, aBegin, anEnd, aMessage, readAll, readPairs, behindHeader, readFields, Holders, holding, none, byType, holders, readLevels, readOf, readWhole}
+use Rattle.laws.proofs.Reading.{Gave, Ready, ready-on, is-fine, is-free, there, list-gave, set-is, set-gave, map-gave, message-gave, behind, ready-header, taken-bool, headed-is, begin-is, ready-in, read-tree}
 
 -- a row of calls that gives something, taken apart
-no-took : {A X : Type 0} {why : ℕ} {a : A} {st : State} → _≡_ {A = Took A} (halted why) (took a st) → X
+pub no-took : {A X : Type 0} {why : ℕ} {a : A} {st : State} → _≡_ {A = Took A} (halted why) (took a st) → X
 no-took e = let z : _≡_ {A = ℕ} 0 1 = cc in absurd (omega arith)
 
-parts : {A B X : Type 0} (x : Took A) (k : A → State → Took B) (b : B) (next : State) → ((a : A) (mid : State) → x ≡ took a mid → k a mid ≡ took b next → X) → andOn x k ≡ took b next → X
+pub parts : {A B X : Type 0} (x : Took A) (k : A → State → Took B) (b : B) (next : State) → ((a : A) (mid : State) → x ≡ took a mid → k a mid ≡ took b next → X) → andOn x k ≡ took b next → X
 parts (took a st) k b next on e = on a st refl e
 parts (halted why) k b next on e = no-took e
 
-unmade : {A B : Type 0} (P : B → Type 0) (g : A → B) (x : Took A) (b : B) (next : State) → ((a : A) → x ≡ took a next → P (g a)) → made g x ≡ took b next → P b
+pub unmade : {A B : Type 0} (P : B → Type 0) (g : A → B) (x : Took A) (b : B) (next : State) → ((a : A) → x ≡ took a next → P (g a)) → made g x ≡ took b next → P b
 unmade P g (took a st) b next on e =
     let q : g a ≡ b = cc in
     let n : st ≡ next = cc in
@@ -56,6 +57,10 @@ unmade P g (halted why) b next on e = no-took e
 -- what the rows of one state give is one
 settled : {A : Type 0} (x : Took A) (a : A) (st next : State) (n : ℕ) (last : FieldId) (g : Gave x a st n last) → x ≡ took a next → next ≡ g .next
 settled x a st next n last g e = let q : took a next ≡ took a (g .next) = sym e ∙ g .is in cc
+
+-- a message by its parts
+same-message : (a m : Message) (name : List ℕ) (x next : State) → name ≡ a .2 → took (a .0, a .1, name) x ≡ took m next → a ≡ m
+same-message a m name x next q e = let p : (a .0, a .1, name) ≡ m = cc in ap (λ (l : List ℕ). (a .0, a .1, l)) (sym q) ∙ p
 
 -- a string read as such is the same bytes, and UTF-8
 done-text : (cs one bs : List ℕ) (n : ℕ) (u : Bool) → utf8 one ≡ u → provided (utf8 one) BAD-UTF8 (done one) bs ≡ got cs n → (one ≡ cs) × (n ≡ 0) × (utf8 cs ≡ true)
@@ -157,6 +162,20 @@ module _ (s : List ℕ) (lim : TConfiguration) (ok : inRange lim ≡ true) where
     map-seen : (h : TType × TType × ℕ) (next : State) → aMap s st ≡ took h next → Seen (pairs lim) h st
     unfolding readMap
     map-seen h next f = under-lim pairs h (answered (pairs (st .limits)) (pairs-lawful (st .limits)) _ (opened (λ x. pairs (x .limits)) stays) (λ o. ofMap (asMap o .answer) (asMap o .state)) (λ why. refl) (λ a e x g. refl) h next f)
+
+    -- a message's header: the name that was handed out is the one that was read
+    message-seen : (m : Message) (next : State) → aMessage s st ≡ took m next → Seen (message lim) m st
+    unfolding readMessage
+    message-seen m next f =
+        let p = message (st .limits) in
+        let g = found p anew _ (opened (λ x. message (x .limits)) anew) (λ o. ofMessage (namePart s st) (asMessage o .answer) (asMessage o .state)) (λ why. refl) m next f in
+        message-here m (g .0) (g .1) next (g .2) (g .3)
+      where
+        message-here : (m a : Message) (e : ℕ) (next : State) → readAt (message (st .limits)) s (st .place .0) ≡ got a e → took (a .0, a .1, namePart s st) (movedTo (anew st a) (place e)) ≡ took m next → Seen (message lim) m st
+        message-here m a e next f h =
+            under-lim message m
+            (subst (λ (x : Message). Seen (message (st .limits)) x st) (same-message a m (namePart s st) _ next (name-handed s st (is-fine s lim ok depth st r d) (is-free s lim ok depth st r) a e f) h)
+            (seen (message (st .limits)) (message-lawful (st .limits)) a e st (r .here) f))
 
     bytes-seen : (cs : List ℕ) (next : State) → aString binaries s st ≡ took cs next → Seen (binary lim) cs st
     unfolding readBytes
@@ -556,3 +575,33 @@ module _ (s : List ℕ) (lim : TConfiguration) (ok : inRange lim ≡ true) where
         same = refl;
         texts = w .texts;
       }
+
+  -- a whole message that the calls read: its header stood at the place, and its struct behind it well formed
+  pub record ReadWhole (room : ℕ) (plan : Plan) (m : Message) (t : Tree) (st next : State) : Type 0 where
+    pub behind : State
+    pub header : Seen (message lim) m st
+    pub there : behind .place .0 ≡ st .place .0 + header .size
+    pub struct : Read room plan T.Struct t behind next
+
+  pub whole-was-formed : (plan : Plan) (room depth : ℕ) (st next : State) (m : Message) (t : Tree) → Ready s lim depth st → depth + room ≤ lim .depth → readWhole s plan st ≡ took (m .0, m .1, m .2, t) next → nesting t ≤ room → ReadWhole room plan m t st next
+  unfolding readWhole
+  whole-was-formed plan room depth st next m t r d e h =
+      parts (aMessage s st) _ (m .0, m .1, m .2, t) next
+      (λ a mid f.
+      unmade (λ (y : TMessageType × ℤ × List ℕ × Tree). nesting (y .3) ≤ room → ReadWhole room plan (y .0, y .1, y .2) (y .3) st next) (λ x. (a .0, a .1, a .2, x)) (readOf s T.Struct plan mid) (m .0, m .1, m .2, t) next
+      (λ x g n. whole-step plan room depth st mid next a x r d f g n))
+      e h
+    where
+      whole-step : (plan : Plan) (room depth : ℕ) (st mid next : State) (a : Message) (x : Tree) → Ready s lim depth st → depth + room ≤ lim .depth → aMessage s st ≡ took a mid → readOf s T.Struct plan mid ≡ took x next → nesting x ≤ room → ReadWhole room plan a x st next
+      whole-step plan room depth st mid next a x r d f g n =
+          let at = st .place .0 in
+          let w = message-seen depth st r (omega arith) a mid f in
+          let v = subst (λ (k : ℕ). Gave (aMessage s st) a st k (idOf (pos 0))) (part-long at (w .size) (w .inside)) (message-gave s lim ok depth st r (omega arith) a (take (w .size) (drop at s)) (drop (w .size) (drop at s)) (w .whole) (part at (w .size))) in
+          let q = settled (aMessage s st) a st mid (w .size) (idOf (pos 0)) v f in
+          let rm = subst (λ (y : State). Ready s lim depth y) (sym q) (ready-on s lim ok depth (w .size) st (v .next) r (v .kept) (v .free) (w .inside)) in
+          record {
+            behind = mid;
+            header = w;
+            there = ap (λ (y : State). y .place .0) q ∙ v .kept .there;
+            struct = was-formed plan T.Struct room depth mid next x rm d g n;
+          }

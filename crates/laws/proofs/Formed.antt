@@ -2,11 +2,12 @@
 -- Assumes nothing.
 use mathlib.Core.Path.{_≡_, refl, sym, ap, subst, _∙_}
 use mathlib.Core.Bool.{true}
-use mathlib.Core.List.{List, _++_}
+use mathlib.Core.Logic.{_↔_}
+use mathlib.Core.List.{List}
 use Prim.Native.Nat.{ℕ, _+_, _-_, _≤_}
 use native.Mathlib.Omega.{arith}
 use lib.ListN.{length, take, drop, length-drop, take-append-drop}
-use lib.Seq.{length-take-le}
+use lib.Seq.{slice, length-take-le}
 use Rattle.types.specs.declared.TType.{TType}
 use Rattle.types.specs.Value.{Tree, nesting}
 use Rattle.numbers.specs.Varint.{got}
@@ -23,6 +24,7 @@ use Rattle.skip.specs.declared.Skipped.the-variants.{Done}
 use Rattle.skip.proofs.Theorems.{reads, skip-formed}
 use Rattle.laws.specs.Text.{Plan, Texts}
 use Rattle.laws.specs.Reading.{took, readOf}
+use Rattle.laws.proofs.Nested.{nested}
 use Rattle.laws.proofs.Texts.{as-bytes, no-texts}
 use Rattle.laws.proofs.Reading.{Gave, Ready, read-of}
 use Rattle.laws.proofs.Exact.{Read, was-formed}
@@ -46,6 +48,43 @@ module _ (s : List ℕ) (st : State) (ok : sound (length s) st ≡ true) (free :
   read-formed plan ty t next e h =
       let q = is-sound (length s) st ok in
       was-formed s (st .limits) (q .limits) plan ty (roomOf st) (st .depth) st next t ready (omega (arith, q .deep)) e h
+
+  -- the two as one: the calls give this tree n bytes on, nested no deeper than skip goes, exactly where n well-formed bytes spell it
+  pub record Given (plan : Plan) (ty : TType) (t : Tree) (n : ℕ) : Type 0 where
+    pub next : State
+    pub reads : readOf s ty plan st ≡ took t next
+    pub there : next .place .0 ≡ st .place .0 + n
+    pub nests : nesting t ≤ roomOf st
+
+  pub record Stands (plan : Plan) (ty : TType) (t : Tree) (n : ℕ) : Type 0 where
+    pub formed : Formed s (st .limits) (roomOf st) ty (st .place .0) (st .place .0 + n)
+    pub same : formed .tree ≡ t
+    pub texts : Texts plan t
+
+  pub read-exact : (plan : Plan) (ty : TType) (t : Tree) (n : ℕ) → Given plan ty t n ↔ Stands plan ty t n
+  read-exact plan ty t n = (from-calls, to-calls)
+    where
+      from-calls : Given plan ty t n → Stands plan ty t n
+      from-calls c =
+          let r = read-formed plan ty t (c .next) (c .reads) (c .nests) in
+          let f = r .formed in
+          let e = c .there in
+          record {
+            formed = record { tree = f .tree; start = omega (arith, f .start); inside = omega (arith, f .inside); spelt = subst (λ (m : ℕ). Spells (f .tree) (st .limits) (roomOf st) ty (slice (st .place .0) m s)) e (f .spelt) };
+            same = r .same;
+            texts = r .texts;
+          }
+
+      to-calls : Stands plan ty t n → Given plan ty t n
+      to-calls c =
+          let f = c .formed in
+          let g = formed-read plan ty n f (subst (Texts plan) (sym (c .same)) (c .texts)) in
+          record {
+            next = g .next;
+            reads = g .is ∙ ap (λ (x : Tree). took x (g .next)) (c .same);
+            there = g .kept .there;
+            nests = subst (λ (x : Tree). nesting x ≤ roomOf st) (c .same) (nested (st .limits) (f .tree) (roomOf st) ty (slice (st .place .0) (st .place .0 + n) s) (f .spelt));
+          }
 
   -- whatever skip takes is read by the calls, and the reader ends where skip does
   pub record Skipped (ty : TType) (n : ℕ) : Type 0 where

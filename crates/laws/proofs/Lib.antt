@@ -3,10 +3,12 @@ pub mod Spelt
 pub mod Back
 pub mod Readable
 pub mod Kept
+pub mod Nested
 pub mod Writing
 pub mod Texts
 pub mod Reading
 pub mod Exact
+pub mod Bounds
 pub mod Formed
 pub mod RoundTrip
 pub mod Samples

@@ -1,6 +1,6 @@
 -- Reading back loses the types of empty maps and nothing else. Assumes nothing.
-use mathlib.Core.Path.{_≡_, refl, sym, ap, ap₂, _∙_}
-use Prim.Native.Nat.{ℕ, _<_}
+use mathlib.Core.Path.{_≡_, refl, ap, ap₂}
+use Prim.Native.Nat.{_<_}
 use native.Mathlib.Omega.{arith}
 use Rattle.types.specs.declared.TType.{TType}
 use Rattle.types.specs.Value as val

@@ -1,14 +1,13 @@
 -- Bytes that spell a value are read as it by the reader's calls, overlong and long forms among them, and the state is as it was, its place behind
 -- them. Assumes nothing.
-use mathlib.Core.Path.{_≡_, refl, sym, ap, ap₂, subst, _∙_}
-use mathlib.Core.Bool.{Bool, true, false, cond}
-use mathlib.Core.Logic.{_⊎_, inl, inr, ⊎-elim}
-use mathlib.Core.List.{List, [], _∷_, _++_, append-assoc, append-nil}
-use Prim.Native.Nat.{ℕ, zero, suc, _+_, _-_, _≤_, _<_}
+use mathlib.Core.Path.{_≡_, refl, sym, ap, subst, _∙_}
+use mathlib.Core.Bool.{Bool, true, false}
+use mathlib.Core.Logic.{_⊎_, ⊎-elim}
+use mathlib.Core.List.{List, [], _++_, append-assoc}
+use Prim.Native.Nat.{ℕ, suc, _+_, _-_, _≤_, _<_}
 use native.Mathlib.Nat.{add-zero}
 use native.Mathlib.Omega.{arith}
 use borrow.Author.Tests.{eq-eqb, ne-eqb, lt-leb}
-use lib.Dec.{eqb, leb}
 use lib.ListN.{length, drop, length-append, length-drop, length-set}
 use lib.Seq.{drop-drop, drop-append-seam}
 use lib.IntN.{ℤ, pos}
@@ -19,30 +18,30 @@ use Rattle.types.specs.declared.TConfiguration.{TConfiguration}
 use Rattle.types.specs.declared.FieldId.{FieldId}
 use Rattle.types.specs.Value as val
 use Rattle.types.specs.Value.{Tree, Trees, no-trees, tree, Pairs, no-pairs, pair, Fields, no-fields, size, sizeP}
-use Rattle.types.proofs.Limits.{Ranged, ranged}
+use Rattle.types.proofs.Limits.{ranged}
 use Rattle.numbers.specs.Varint.{got, placed}
 use Rattle.utf8.specs.Utf8.{utf8}
 use Rattle.heads.specs.Reader.{Reader, readAt, Whole, provided, done}
 use Rattle.heads.specs.Heads.{int8, int16, int32, int64, double, uuid, truth, binary, text, items, pairs, Field, stop, bool, value, field, Message, message}
 use Rattle.heads.specs.Answers.{place, idOf}
 use Rattle.heads.specs.Spells.{Spells, SpellsAll, SpellsPairs, SpellsFields}
-use Rattle.heads.proofs.Lawful.{Lawful, Takes, then-got, whole-front}
+use Rattle.heads.proofs.Lawful.{Lawful, then-got, whole-front}
 use Rattle.heads.proofs.Readers.{int8-lawful, int16-lawful, int32-lawful, int64-lawful, double-lawful, uuid-lawful, truth-lawful, binary-lawful, text-lawful, items-lawful, pairs-lawful, field-lawful, message-lawful, items-takes, pairs-takes, field-takes}
 use Rattle.input.specs.State.{State, sound, waits, gate, movedTo, withLast, withPending, entered, left}
 use Rattle.input.specs.Outcome.{Outcome, answers, calls, stays, element, bools, begins, ends, anew, onField}
-use Rattle.input.specs.Answers.{asBool, asI8, asI16, asI32, asI64, asDouble, asPart, asList, asMap, asField, asMessage, asDone}
+use Rattle.input.specs.Answers.{asI8, asI16, asI32, asI64, asDouble, asPart, asList, asMap, asField, asMessage}
 use Rattle.input.specs.Calls.{readBool, readI8, readI16, readI32, readI64, readDouble, readUuid, readBytes, readString, readList, readSet, readMap, readField, readMessage, structBegin, structEnd, bytesPart, stringPart, uuidPart, namePart}
 use Rattle.input.specs.declared.Awaited.{Awaited}
 use Rattle.input.specs.declared.Awaited.the-variants as W
 use Rattle.input.specs.declared.FieldAnswer.the-variants as F
 use Rattle.input.specs.declared.ReadField.{ReadField}
-use Rattle.input.proofs.Gate.{Sound, sound-is}
+use Rattle.input.proofs.Gate.{sound-is}
 use Rattle.input.proofs.Laws.{busy, gate-free, read-well}
 use Rattle.input.proofs.Handed.{uuid-handed, bytes-handed, string-handed, name-handed}
 use Rattle.laws.proofs.Kept as kept
 use Rattle.laws.proofs.Kept.{Stand}
 use Rattle.laws.specs.Text.{Form, binaries, strings, Plan, under, keyUnder, valueUnder, Fits, Texts, TextsAll, TextsPairs, TextsFields}
-use Rattle.laws.specs.Reading.{Took, took, halted, andOn, made, ofBool, ofI8, ofI16, ofI32, ofI64, ofDouble, ofPart, ofList, ofMap, ofDone, ofMessage, aBool, anI8, anI16, anI32, anI64, aDouble, aUuid, aString, aList, aSet, aMap, aBegin, anEnd, aMessage, readAll, readPairs, behindHeader, readFields, Holders, holding, byType, holders, readLevels, readOf, readWhole}
+use Rattle.laws.specs.Reading.{Took, took, andOn, made, ofI8, ofI16, ofI32, ofI64, ofDouble, ofPart, ofList, ofMap, ofMessage, aBool, anI8, anI16, anI32, anI64, aDouble, aUuid, aString, aList, aSet, aMap, aBegin, anEnd, aMessage, readAll, readPairs, behindHeader, readFields, Holders, holding, byType, holders, readLevels, readOf, readWhole}
 
 -- n bytes on, with the same depth, limits and ids below the depth
 abbrev pub stand : State → Stand
@@ -217,7 +216,7 @@ module _ (s : List ℕ) (lim : TConfiguration) (ok : inRange lim ≡ true) where
         }
 
     -- a message's header with its name: "Reading it sets the last field id to 0"
-    message-gave : (m : Message) (bs rest : List ℕ) → Whole (message lim) m bs → drop (st .place .0) s ≡ bs ++ rest → Gave (aMessage s st) m st (length bs) (idOf (pos 0))
+    pub message-gave : (m : Message) (bs rest : List ℕ) → Whole (message lim) m bs → drop (st .place .0) s ≡ bs ++ rest → Gave (aMessage s st) m st (length bs) (idOf (pos 0))
     unfolding readMessage
     message-gave m bs rest w e =
         let v = there message m bs w in

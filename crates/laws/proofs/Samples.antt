@@ -4,14 +4,13 @@ use mathlib.Core.Path.{_≡_, refl}
 use mathlib.Core.Bool.{true}
 use mathlib.Core.List.{List, [], _∷_, _++_}
 use Prim.Native.Nat.{ℕ, zero, suc}
-use lib.IntN.{ℤ, pos, negsuc}
+use lib.IntN.{pos, negsuc}
 use lib.ListN.{take, replicate}
 use Rattle.types.specs.Refusals.{END, BAD-TYPE}
 use Rattle.types.specs.Codes.{typeCode, truthCode, messageCode, typeByNumber, elementType, fieldType, messageByNumber}
 use Rattle.types.specs.Limits.{inRange, defaults}
 use Rattle.types.specs.declared.TType.the-variants as T
 use Rattle.types.specs.declared.TMessageType.the-variants as M
-use Rattle.types.specs.declared.SeqNo.{SeqNo}
 use Rattle.types.specs.Value as val
 use Rattle.types.specs.Value.{Tree, Fields, no-trees, tree, no-fields, typeOf}
 use Rattle.numbers.specs.Varint.{fewest}
@@ -22,14 +21,12 @@ use Rattle.heads.specs.Reader.{done, refuse, andThen, provided, byte, some, rea
 use Rattle.heads.specs.Heads.{int8, number32, number64, int16, int32, int64, double, uuid, truth, binary, text, counted, listed, items, mapped, pairs, fieldId, field, named, versioned, message}
 use Rattle.heads.specs.Answers.{place}
 use Rattle.input.specs.State as input
-use Rattle.input.specs.State.{sound, gate, fresh, movedTo}
+use Rattle.input.specs.State.{sound, gate, fresh}
 use Rattle.input.specs.Outcome.{calls, element, bools, begins, ends}
 use Rattle.input.specs.Calls.{readBool, readI8, readI16, readI32, readI64, readDouble, readUuid, readBytes, readString, readList, readSet, readMap, readField, readMessage, structBegin, structEnd, bytesPart, stringPart, uuidPart, namePart}
-use Rattle.output.specs.State as output
 use Rattle.output.specs.State.{orElse, unsound, inTurn, begun}
 use Rattle.output.specs.Bytes.{shortDelta, fieldBytes, itemsBytes, pairsBytes, stringBytes, messageBytes}
 use Rattle.output.specs.Calls.{settled, writes, leaves, lengthWrong, textWrong, fieldWrong, countWrong, beginWrong, endWrong, boolCall, fieldCall}
-use Rattle.laws.specs.Text.{Plan, binaries}
 use Rattle.laws.specs.Writing.{Step, Ran, ran, stopped, run, writeOf, writeAll, writePairs, writeFields, writeWhole}
 use Rattle.laws.specs.Reading.{Took, took, halted, readAll, readPairs, readFields, holders, readLevels, readOf, readWhole}
 use Rattle.laws.proofs.Texts.{as-bytes}

@@ -1,22 +1,20 @@
 -- The writer's bytes are well formed: those of a value within the limits spell it, and skip takes exactly them. Assumes nothing.
-use mathlib.Core.Path.{_≡_, refl, sym, ap, ap₂, subst, _∙_}
-use mathlib.Core.Bool.{Bool, true, false, cond}
-use mathlib.Core.Logic.{_⊎_, inl, inr, ⊎-elim}
-use mathlib.Core.List.{List, [], _∷_, _++_}
-use Prim.Native.Nat.{ℕ, zero, suc, _+_, _-_, _^_, _≤_, _<_, max}
+use mathlib.Core.Path.{_≡_, refl, ap, subst}
+use mathlib.Core.Bool.{Bool, false}
+use mathlib.Core.Logic.{inl, inr}
+use mathlib.Core.List.{[], _++_}
+use Prim.Native.Nat.{ℕ, suc, _+_, _-_, _≤_, _<_}
 use native.Mathlib.Omega.{arith}
-use lib.ListN.{length, drop}
 use lib.IntN.{ℤ, pos}
-use mir.Syntax.{w8, w16, w32, w64}
-use mir.Val.{SFits, ofZ}
+use mir.Syntax.{w16}
+use mir.Val.{SFits}
 use Rattle.types.specs.Codes.{typeCode, truthCode}
 use Rattle.types.specs.declared.TType.{TType}
 use Rattle.types.specs.declared.TType.the-variants as T
 use Rattle.types.specs.declared.TConfiguration.{TConfiguration}
 use Rattle.types.specs.Value as val
-use Rattle.types.specs.Value.{Tree, Trees, no-trees, tree, Pairs, no-pairs, pair, Fields, no-fields, typeOf, size, sizeP, nesting, nestingAll, nestingPairs, nestingFields, Sized, SizedAll, SizedPairs, SizedFields, Typed, TypedAll, TypedPairs, TypedFields, Within}
+use Rattle.types.specs.Value.{Tree, Trees, no-trees, tree, Pairs, no-pairs, pair, Fields, no-fields, typeOf, size, sizeP, nesting, nestingAll, nestingPairs, nestingFields, Sized, SizedAll, SizedPairs, SizedFields, Typed, TypedAll, TypedPairs, TypedFields}
 use Rattle.types.proofs.Limits.{Ranged}
-use Rattle.numbers.specs.Varint.{got}
 use Rattle.heads.specs.Reader.{Whole}
 use Rattle.heads.specs.Heads.{int8, int16, int32, int64, double, uuid, truth, binary, items, pairs, stop, bool, value, field}
 use Rattle.heads.specs.Spells.{Spells, SpellsAll, SpellsPairs, SpellsFields}

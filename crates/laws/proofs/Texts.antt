@@ -1,6 +1,5 @@
 -- The strings of a value that are written as such: the value that can be read back has the same, and there are none where all go as bytes. Assumes nothing.
 use Prim.Native.Nat.{ℕ, suc}
-use mathlib.Core.List.{List, []}
 use lib.IntN.{pos}
 use Rattle.types.specs.declared.TType.{TType}
 use Rattle.types.specs.Value as val

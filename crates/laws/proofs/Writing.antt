@@ -1,13 +1,12 @@
 -- A value within the limits, written by the calls, stands in the buffer as its bytes, and the state is as it was, its place behind them.
 -- Assumes nothing.
 use mathlib.Core.Path.{_≡_, refl, sym, ap, ap₂, subst, _∙_}
-use mathlib.Core.Bool.{Bool, true, false, cond, _||_}
-use mathlib.Core.List.{List, [], _∷_, _++_, append-assoc, append-nil}
-use Prim.Native.Nat.{ℕ, zero, suc, _+_, _-_, _≤_, _<_, max}
-use native.Mathlib.Nat.{add-zero}
+use mathlib.Core.Bool.{Bool, true, false}
+use mathlib.Core.List.{List, [], _∷_, _++_, append-nil}
+use Prim.Native.Nat.{ℕ, suc, _+_, _-_, _≤_, _<_}
 use native.Mathlib.Omega.{arith}
-use borrow.Author.Tests.{eq-eqb, ne-eqb, le-leb, lt-leb, le-ltb}
-use lib.Dec.{eqb, leb}
+use borrow.Author.Tests.{ne-eqb, le-leb, lt-leb, le-ltb}
+use lib.Dec.{eqb}
 use lib.ListN.{length, length-append, length-set}
 use lib.IntN.{ℤ, pos}
 use Rattle.types.specs.Codes.{typeCode, truthCode}
@@ -24,16 +23,15 @@ use Rattle.utf8.specs.Utf8.{utf8}
 use Rattle.types.proofs.Value.{no-stop}
 use Rattle.numbers.specs.Answers.{putAt}
 use Rattle.numbers.proofs.Put.{put-put, length-put}
-use Rattle.output.specs.State.{State, idOf, placeOf, orElse, inTurn, turn, movedTo, headed, awaiting, entered, ended}
+use Rattle.output.specs.State.{State, idOf, orElse, inTurn, turn, movedTo, headed, awaiting, entered, ended}
 use Rattle.output.specs.Bytes.{fieldBytes, itemsBytes, pairsBytes, stringBytes, messageBytes}
-use Rattle.output.specs.Calls.{Call, call, writes, leaves, written, countWrong, lengthWrong, textWrong, fieldWrong, truthCall, beginWrong, endWrong, boolCall, i8Call, intCall, doubleCall, uuidCall, bytesCall, stringCall, itemsCall, pairsCall, structBeginCall, structEndCall, fieldCall, stopCall, messageCall}
+use Rattle.output.specs.Calls.{call, writes, leaves, countWrong, lengthWrong, textWrong, fieldWrong, truthCall, beginWrong, endWrong, boolCall, i8Call, intCall, doubleCall, uuidCall, bytesCall, stringCall, itemsCall, pairsCall, structBeginCall, structEndCall, fieldCall, stopCall, messageCall}
 use Rattle.output.specs.declared.AwaitedField.{AwaitedField}
 use Rattle.output.specs.declared.AwaitedField.the-variants as A
 use Rattle.output.specs.declared.Written.{Written}
 use Rattle.output.specs.declared.WriteAnswer.{WriteAnswer}
 use Rattle.output.specs.declared.WriteAnswer.the-variants as WA
-use Rattle.output.proofs.Checks.{Sound}
-use Rattle.output.proofs.Laws.{Went, goes}
+use Rattle.output.proofs.Laws.{goes}
 use Rattle.laws.specs.Written.{fieldCode, inHeader, bytesOf, bytesOfAll, bytesOfPairs, bytesOfFields, bytesOfWhole, HeaderWithin}
 use Rattle.laws.specs.Text.{Form, binaries, strings, Plan, under, keyUnder, valueUnder, Fits, Texts, TextsAll, TextsPairs, TextsFields}
 use Rattle.laws.specs.Writing.{Step, Ran, ran, stopped, goOn, run, writeString, writeOf, writeAll, writePairs, writeFields, writeWhole}

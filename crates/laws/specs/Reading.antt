@@ -213,7 +213,7 @@ holders s (suc levels) = holding s (byType s (holders s levels))
 unfoldable pub readLevels : List ℕ → ℕ → TType → Plan → State → Took Tree
 readLevels s levels ty plan st = byType s (holders s levels) ty plan st
 
--- a value of a type: each level has a byte of its own, so that no more of them can be met than there are bytes
+-- a value of a type: each level has a byte of its own, so that no more of them can be met than there are bytes (`read-step` in proofs/Bounds)
 unfoldable pub readOf : List ℕ → TType → Plan → State → Took Tree
 readOf s ty plan st = readLevels s (suc (length s)) ty plan st
 

@@ -1,7 +1,7 @@
 -- Writing a value by the writer's calls, in the order of the value's grammar. Assumes nothing: these are definitions.
 use Prim.Native.Nat.{ℕ, suc}
 use mathlib.Core.List.{List, [], _∷_, _++_}
-use lib.IntN.{ℤ, pos}
+use lib.IntN.{pos}
 use Rattle.types.specs.declared.TMessageType.{TMessageType}
 use Rattle.types.specs.declared.SeqNo.{SeqNo}
 use Rattle.types.specs.Value as val
