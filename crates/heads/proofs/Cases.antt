@@ -31,7 +31,7 @@ use Rattle.types.specs.declared.MessageTypeRead.{MessageTypeRead}
 use Rattle.types.specs.declared.MessageTypeRead.the-variants as MR
 use Rattle.types.specs.declared.TConfiguration.{TConfiguration}
 use Rattle.numbers.specs.Varint.{Found, got, refused, placed, varint, varintAt}
-use Rattle.numbers.specs.Zigzag.{unzigzag}
+use Rattle.zigzag.specs.Zigzag.{unzigzag}
 use Rattle.numbers.specs.Fixed.{little}
 use Rattle.numbers.specs.Answers.{as32, as64, as16, asBits, signed16, varint32At, varint64At, signed16At, littleAt, bits64At}
 use Rattle.numbers.specs.declared.Varint32.{Varint32}

@@ -21,7 +21,7 @@ use Rattle.types.specs.declared.MessageTypeRead.{MessageTypeRead}
 use Rattle.types.specs.declared.MessageTypeRead.the-variants as MR
 use Rattle.types.specs.declared.TConfiguration.{TConfiguration}
 use Rattle.numbers.specs.Varint.{varint}
-use Rattle.numbers.specs.Zigzag.{unzigzag}
+use Rattle.zigzag.specs.Zigzag.{unzigzag}
 use Rattle.numbers.specs.Answers.{signed16}
 use Rattle.numbers.specs.Fixed.{little}
 use Rattle.utf8.specs.Utf8.{utf8}

@@ -93,7 +93,7 @@ pub fn read_i8(s: &[u8], place: Place) -> I8Read
     if s.len() <= at {
         return I8Read::Refused(types::END);
     }
-    I8Read::Got(numbers::signed8(s[at]), Place(at + 1))
+    I8Read::Got(zigzag::signed8(s[at]), Place(at + 1))
 }
 
 pub fn read_i16(s: &[u8], place: Place) -> I16Read
@@ -109,7 +109,7 @@ pub fn read_i32(s: &[u8], place: Place) -> I32Read
     ensures { λ r. ⌜ r ≡ int32At (now (s .entry)) (place .0) ⌝ }
 {
     match numbers::read_varint32(s, place.0) {
-        Varint32::Got(n, next) => I32Read::Got(numbers::zigzag_to_i32(n), Place(next)),
+        Varint32::Got(n, next) => I32Read::Got(zigzag::zigzag_to_i32(n), Place(next)),
         Varint32::Refused(why) => I32Read::Refused(why),
     }
 }
@@ -118,7 +118,7 @@ pub fn read_i64(s: &[u8], place: Place) -> I64Read
     ensures { λ r. ⌜ r ≡ int64At (now (s .entry)) (place .0) ⌝ }
 {
     match numbers::read_varint64(s, place.0) {
-        Varint64::Got(n, next) => I64Read::Got(numbers::zigzag_to_i64(n), Place(next)),
+        Varint64::Got(n, next) => I64Read::Got(zigzag::zigzag_to_i64(n), Place(next)),
         Varint64::Refused(why) => I64Read::Refused(why),
     }
 }
@@ -334,7 +334,7 @@ fn named(s: &[u8], at: usize, kind: TMessageType, limits: TConfiguration) -> Mes
         Varint32::Got(n, next) => match read_string(s, Place(next), limits) {
             PartRead::Refused(why) => MessageHead::Refused(why),
             PartRead::Got(start, end) => {
-                MessageHead::Got(kind, SeqNo(numbers::signed32(n)), start, end)
+                MessageHead::Got(kind, SeqNo(zigzag::signed32(n)), start, end)
             }
         },
     }

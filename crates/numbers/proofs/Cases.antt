@@ -16,7 +16,7 @@ use mir.Val.{toZ, ofZ, Fits}
 use mir.Facts.{toZ-ofZ}
 use Rattle.types.specs.Refusals.{END, NO-ROOM}
 use Rattle.numbers.specs.Varint.{fewest}
-use Rattle.numbers.specs.Zigzag.{unzigzag}
+use Rattle.zigzag.specs.Zigzag.{unzigzag}
 use Rattle.numbers.specs.Fixed.{little, littleOf, eight}
 use Rattle.numbers.specs.Answers.{varint32At, signed16At, bits64At, wroteAt, putAt}
 use Rattle.numbers.specs.declared.Varint32.{Varint32}

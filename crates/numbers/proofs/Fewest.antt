@@ -11,9 +11,9 @@ use mir.Syntax.{Width, w16, w32, w64}
 use mir.Val.{bits, SFits}
 use lib.IntN.{ℤ}
 use Rattle.numbers.specs.Varint.{got, groups, placed, varint, varintAt, bytesOf, fewest}
-use Rattle.numbers.specs.Zigzag.{zigzag}
+use Rattle.zigzag.specs.Zigzag.{zigzag}
 use Rattle.numbers.specs.Answers.{putAt}
-use Rattle.numbers.proofs.Zig.{zig-below}
+use Rattle.zigzag.proofs.Zig.{zig-below}
 use Rattle.numbers.proofs.Put.{put-drop}
 use Rattle.numbers.proofs.Found.{Bytes, bytes-nil, bytes-cons, by-size, Kept, kept, Took, took}
 

@@ -15,7 +15,7 @@ use mir.Val.{ofZ, SFits}
 use mir.Facts.{sfits-toZ, fits-of-lt}
 use Rattle.types.specs.Refusals.{END, LONG-VARINT}
 use Rattle.numbers.specs.Varint.{Found, got, refused, varintAt, fewest}
-use Rattle.numbers.specs.Zigzag.{zigzag, unzigzag, low16}
+use Rattle.zigzag.specs.Zigzag.{zigzag, unzigzag, low16}
 use Rattle.numbers.specs.Fixed.{eight}
 use Rattle.numbers.specs.Answers.{as32, as64, asBits, varint32At, varint64At, signed16At, littleAt, bits64At, putAt}
 use Rattle.numbers.specs.declared.Varint32.{Varint32}
@@ -29,7 +29,7 @@ use Rattle.numbers.specs.declared.Bits64.the-variants as B64
 use Rattle.numbers.proofs.Found.{Bytes, zero-one, Within, within, local-at, which-at}
 use Rattle.numbers.proofs.Fewest.{round-trip-in}
 use Rattle.numbers.proofs.Sixteen.{signed16Of, signed16-is}
-use Rattle.numbers.proofs.Zig.{un-zig, zig-below, low-half}
+use Rattle.zigzag.proofs.Zig.{un-zig, zig-below, low-half}
 use Rattle.numbers.proofs.Fixed.{Read, little-in, little-read, little-below-read, little-bytes, little-local}
 use Rattle.numbers.proofs.Put.{put-drop}
 

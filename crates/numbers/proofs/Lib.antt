@@ -1,5 +1,4 @@
 pub mod Read
-pub mod Zig
 pub mod Found
 pub mod Put
 pub mod Fewest

@@ -5,7 +5,7 @@ use Prim.Native.Nat.{ℕ}
 use mir.Syntax.{w32}
 use mir.Val.{ofZ}
 use Rattle.numbers.specs.Varint.{Found, got, refused, varintAt}
-use Rattle.numbers.specs.Zigzag.{unzigzag, low16}
+use Rattle.zigzag.specs.Zigzag.{unzigzag, low16}
 use Rattle.numbers.specs.Answers.{as32, as16, signed16, varint32At, signed16At}
 use Rattle.numbers.specs.declared.Varint32.{Varint32}
 use Rattle.numbers.specs.declared.Varint32.the-variants as V32

@@ -5,7 +5,7 @@ use Prim.Native.Nat.{ℕ, _-_, _^_}
 use lib.IntN.{ℤ, pos, negsuc}
 use Rattle.types.specs.Refusals.{END, LONG-VARINT}
 use Rattle.numbers.specs.Varint.{fewest}
-use Rattle.numbers.specs.Zigzag.{zigzag, unzigzag}
+use Rattle.zigzag.specs.Zigzag.{zigzag, unzigzag}
 use Rattle.numbers.specs.Answers.{varint32At, signed16At}
 use Rattle.numbers.specs.declared.Varint32.{Varint32}
 use Rattle.numbers.specs.declared.Varint32.the-variants as V32

@@ -10,7 +10,7 @@ use mir.Syntax.{w32}
 use mir.Val.{ofZ}
 use Rattle.types.specs.Refusals.{END, NO-ROOM}
 use Rattle.numbers.specs.Varint.{Found, got, refused, varintAt}
-use Rattle.numbers.specs.Zigzag.{low16, unzigzag}
+use Rattle.zigzag.specs.Zigzag.{low16, unzigzag}
 use Rattle.numbers.specs.Fixed.{little}
 use Rattle.numbers.specs.declared.Varint32.{Varint32}
 use Rattle.numbers.specs.declared.Varint32.the-variants as V32

@@ -1,4 +1,3 @@
 pub mod Varint
-pub mod Zigzag
 pub mod Fixed
 pub mod Answers

@@ -22,13 +22,13 @@ use Rattle.types.specs.declared.TConfiguration.{TConfiguration}
 use Rattle.types.proofs.Codes.{in-container, message-by-number}
 use Rattle.types.proofs.Limits.{Ranged}
 use Rattle.numbers.specs.Varint.{got, fewest}
-use Rattle.numbers.specs.Zigzag.{zigzag, low16}
+use Rattle.zigzag.specs.Zigzag.{zigzag, low16}
 use Rattle.numbers.specs.Answers.{signed16}
 use Rattle.numbers.specs.Fixed.{little, eight}
 use Rattle.numbers.proofs.Found.{by-lt}
 use Rattle.numbers.proofs.Fewest.{round-trip, fewest-one}
 use Rattle.numbers.proofs.Fixed.{little-of, length-eight}
-use Rattle.numbers.proofs.Zig.{un-zig, zig-below, low-half}
+use Rattle.zigzag.proofs.Zig.{un-zig, zig-below, low-half}
 use Rattle.utf8.specs.Utf8.{utf8}
 use Rattle.heads.specs.Reader.{Reader, done, andThen, provided, byte, some, Whole}
 use Rattle.heads.specs.Heads.{int8, number32, number64, int16, int32, int64, double, uuid, truth, binary, text, typed, counted, listed, items, mapped, pairs, messageTyped, named, versioned, message}

@@ -18,7 +18,7 @@ use Rattle.types.specs.declared.TType.{TType}
 use Rattle.types.specs.declared.FieldId.{FieldId}
 use Rattle.types.specs.declared.TConfiguration.{TConfiguration}
 use Rattle.numbers.specs.Varint.{fewest}
-use Rattle.numbers.specs.Zigzag.{zigzag}
+use Rattle.zigzag.specs.Zigzag.{zigzag}
 use Rattle.numbers.specs.Answers.{wroteAt, putAt}
 use Rattle.numbers.specs.declared.Wrote.{Wrote}
 use Rattle.numbers.specs.declared.Wrote.the-variants as W

@@ -22,7 +22,7 @@ use Rattle.types.specs.declared.FieldId.{FieldId}
 use Rattle.types.specs.declared.TConfiguration.{TConfiguration}
 use Rattle.utf8.specs.Utf8.{utf8}
 use Rattle.numbers.proofs.Found.{zero-one}
-use Rattle.numbers.proofs.Zig.{up-sign, up-cast}
+use Rattle.zigzag.proofs.Zig.{up-sign, up-cast}
 use Rattle.output.specs.State.{State, orElse, unsound, inTurn}
 use Rattle.output.specs.Bytes.{above}
 use Rattle.output.specs.Calls.{lengthWrong, textWrong, fieldWrong, countWrong, beginWrong, endWrong}

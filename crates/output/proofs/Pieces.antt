@@ -21,7 +21,7 @@ use Rattle.types.specs.declared.TType.the-variants as T
 use Rattle.types.specs.declared.TMessageType.{TMessageType}
 use Rattle.types.specs.declared.TMessageType.the-variants as M
 use Rattle.numbers.specs.Varint.{fewest}
-use Rattle.numbers.specs.Zigzag.{zigzag}
+use Rattle.zigzag.specs.Zigzag.{zigzag}
 use Rattle.numbers.specs.Answers.{wroteAt, putAt}
 use Rattle.numbers.specs.declared.Wrote.{Wrote}
 use Rattle.numbers.specs.declared.Wrote.the-variants as W

@@ -17,11 +17,11 @@ use Rattle.types.specs.Codes.{fieldType}
 use Rattle.types.specs.declared.FieldType.{FieldType}
 use Rattle.types.specs.declared.FieldType.the-variants as FT
 use Rattle.numbers.specs.Varint.{Found, got, refused, placed, varint, groups}
-use Rattle.numbers.specs.Zigzag.{zigzag, unzigzag, low16}
+use Rattle.zigzag.specs.Zigzag.{zigzag, unzigzag, low16}
 use Rattle.numbers.specs.Answers.{signed16}
 use Rattle.numbers.proofs.Found.{by-lt, kept, took}
 use Rattle.numbers.proofs.Fewest.{shortest, at-most}
-use Rattle.numbers.proofs.Zig.{zig-un, zig-below, low-half}
+use Rattle.zigzag.proofs.Zig.{zig-un, zig-below, low-half}
 use Rattle.heads.specs.Reader.{done, refuse, andThen, byte}
 use Rattle.heads.specs.Heads.{int16, fieldId, ofType, field, Field, stop, bool, value}
 use Rattle.heads.proofs.Lawful.{both, not-both}

@@ -12,7 +12,7 @@ use Rattle.types.specs.Codes.{typeCode, messageCode}
 use Rattle.types.specs.declared.TType.{TType}
 use Rattle.types.specs.declared.TMessageType.{TMessageType}
 use Rattle.numbers.specs.Varint.{fewest}
-use Rattle.numbers.specs.Zigzag.{zigzag}
+use Rattle.zigzag.specs.Zigzag.{zigzag}
 
 -- how far a signed number is above 0: 0 where it is not
 abbrev pub above : ℤ → ℕ

@@ -105,7 +105,7 @@ pub(crate) fn field_header(buf: &mut [u8], at: usize, last: FieldId, id: FieldId
 {
     let delta = short_delta(last, id);
     if delta == 0 {
-        let n = numbers::i32_to_zigzag(id.0 as i32);
+        let n = zigzag::i32_to_zigzag(id.0 as i32);
         return byte_varint(buf, at, code, n);
     }
     numbers::write_byte(buf, at, delta * 16 + code)
@@ -160,7 +160,7 @@ pub(crate) fn message(
     requires { ⌜ length (now name) ≤ 2147483647 ⌝ }
     ensures { λ r. ⌜ (r ≡ wroteAt (now (buf .entry)) at (messageBytes kind (sequence .0) (now (name .entry)))) × (now (buf .exit) ≡ putAt (now (buf .entry)) at (messageBytes kind (sequence .0) (now (name .entry)))) ⌝ }
 {
-    let bits = numbers::bits32(sequence.0);
+    let bits = zigzag::bits32(sequence.0);
     let second = types::message_type_to_u8(kind) * 32 + COMPACT_VERSION;
     envelope(buf, at, second, bits, name)
 }

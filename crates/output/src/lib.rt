@@ -346,7 +346,7 @@ impl TCompactOutputProtocol {
             return self.refused(why);
         }
         let at = self.place.0;
-        let wrote = numbers::write_byte(buf, at, numbers::bits8(n));
+        let wrote = numbers::write_byte(buf, at, zigzag::bits8(n));
         self.moved(wrote)
     }
 
@@ -358,7 +358,7 @@ impl TCompactOutputProtocol {
             return self.refused(why);
         }
         let at = self.place.0;
-        let z = numbers::i32_to_zigzag(n as i32);
+        let z = zigzag::i32_to_zigzag(n as i32);
         let wrote = numbers::write_varint32(buf, at, z);
         self.moved(wrote)
     }
@@ -371,7 +371,7 @@ impl TCompactOutputProtocol {
             return self.refused(why);
         }
         let at = self.place.0;
-        let z = numbers::i32_to_zigzag(n);
+        let z = zigzag::i32_to_zigzag(n);
         let wrote = numbers::write_varint32(buf, at, z);
         self.moved(wrote)
     }
@@ -384,7 +384,7 @@ impl TCompactOutputProtocol {
             return self.refused(why);
         }
         let at = self.place.0;
-        let z = numbers::i64_to_zigzag(n);
+        let z = zigzag::i64_to_zigzag(n);
         let wrote = numbers::write_varint64(buf, at, z);
         self.moved(wrote)
     }

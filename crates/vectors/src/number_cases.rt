@@ -49,7 +49,7 @@ fn read_32(kind: u64, s: &[u8], at: usize) -> Answer {
             if kind == U32 {
                 return Answer::Number(n as u64, p);
             }
-            Answer::Signed(numbers::zigzag_to_i32(n) as i64, p)
+            Answer::Signed(zigzag::zigzag_to_i32(n) as i64, p)
         }
         Varint32::Refused(n) => Answer::Refused(n),
     }
@@ -61,7 +61,7 @@ fn read_64(kind: u64, s: &[u8], at: usize) -> Answer {
             if kind == U64 {
                 return Answer::Number(n, p);
             }
-            Answer::Signed(numbers::zigzag_to_i64(n), p)
+            Answer::Signed(zigzag::zigzag_to_i64(n), p)
         }
         Varint64::Refused(n) => Answer::Refused(n),
     }
@@ -71,7 +71,7 @@ fn read_i8(s: &[u8], at: usize) -> Answer {
     if s.len() <= at {
         return Answer::Refused(types::END);
     }
-    Answer::Signed(numbers::signed8(s[at]) as i64, at + 1)
+    Answer::Signed(zigzag::signed8(s[at]) as i64, at + 1)
 }
 
 fn read_i16(s: &[u8], at: usize) -> Answer {
@@ -111,8 +111,8 @@ fn item_of(kind: u64, line: &[u8]) -> Item {
     match kind {
         U32 => Item::Narrow((words::number(line, 2) % 0x1_0000_0000) as u32),
         U64 => Item::Wide(words::number(line, 2)),
-        I16 | I32 => Item::Narrow(numbers::i32_to_zigzag(words::signed32(line, 2))),
-        I64 => Item::Wide(numbers::i64_to_zigzag(words::signed(line, 2))),
+        I16 | I32 => Item::Narrow(zigzag::i32_to_zigzag(words::signed32(line, 2))),
+        I64 => Item::Wide(zigzag::i64_to_zigzag(words::signed(line, 2))),
         _ => Item::Eight(words::bits(line, 2)),
     }
 }

@@ -1,7 +1,7 @@
 -- A number not below 0 is its own distance; one below 0, turned, is its distance less one. Assumes nothing.
 use native.Mathlib.Omega.{arith}
 use mir.Syntax.{w64}
-use Rattle.numbers.proofs.Zig.{to-zig, down-more}
+use Rattle.zigzag.proofs.Zig.{to-zig, down-more}
 use borrow.Author.Needs.{needs}
 use Rattle.vectors.proofs.say.distance.Statement.{statement}
 use Rattle.vectors.proofs.say.distance.Tie as tie

@@ -1,5 +1,5 @@
 -- A number not below 0, and one below 0 turned, fit the unsigned type. Assumes nothing.
-use Rattle.numbers.proofs.Zig.{to-zig}
+use Rattle.zigzag.proofs.Zig.{to-zig}
 use borrow.Author.Needs.{needs}
 use Rattle.vectors.proofs.words.signed32.Statement.{statement}
 use Rattle.vectors.proofs.words.signed32.Tie as tie

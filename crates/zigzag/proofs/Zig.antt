@@ -14,7 +14,7 @@ use lib.Dec.{T, leb·zero}
 use mir.Syntax.{Width, w8, w16, w32, w64, w128}
 use mir.Val.{bits, hbits, Fits, SFits, toZ, ofZ}
 use mir.Facts.{toZ-ofZ, toZ-pos, toZ-neg, sfits-toZ, fits-xor, fits-div, fits-ofZ}
-use Rattle.numbers.specs.Zigzag.{zigzag, unzigzag, low16}
+use Rattle.zigzag.specs.Zigzag.{zigzag, unzigzag, low16}
 
 -- a width's power is twice its half's
 twice-half : (w : Width) → 2 ^ bits w ≡ 2 * 2 ^ hbits w

@@ -1,8 +1,8 @@
 use borrow.Author.Needs.{needs}
 use mir.Syntax.{w64}
-use Rattle.numbers.proofs.Zig.{turned-twice}
-use Rattle.numbers.proofs.signed64.Statement.{statement}
-use Rattle.numbers.proofs.signed64.Tie as tie
+use Rattle.zigzag.proofs.Zig.{turned-twice}
+use Rattle.zigzag.proofs.signed64.Statement.{statement}
+use Rattle.zigzag.proofs.signed64.Tie as tie
 
 cast-result : tie.Need-cast-result
 cast-result c = search needs

@@ -1,9 +1,9 @@
 use borrow.Author.Needs.{needs}
 use mir.Facts.{fits-of-lt}
 use mir.Syntax.{w32}
-use Rattle.numbers.proofs.Zig.{decoded}
-use Rattle.numbers.proofs.zigzag_to_i32.Statement.{statement}
-use Rattle.numbers.proofs.zigzag_to_i32.Tie as tie
+use Rattle.zigzag.proofs.Zig.{decoded}
+use Rattle.zigzag.proofs.zigzag_to_i32.Statement.{statement}
+use Rattle.zigzag.proofs.zigzag_to_i32.Tie as tie
 
 wrapping-sub-u32-requires : tie.Need-wrapping-sub-u32-requires
 wrapping-sub-u32-requires c κs = search needs

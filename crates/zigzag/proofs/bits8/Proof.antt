@@ -1,6 +1,6 @@
-use Rattle.numbers.proofs.Zig.{to-zig}
-use Rattle.numbers.proofs.bits8.Statement.{statement}
-use Rattle.numbers.proofs.bits8.Tie as tie
+use Rattle.zigzag.proofs.Zig.{to-zig}
+use Rattle.zigzag.proofs.bits8.Statement.{statement}
+use Rattle.zigzag.proofs.bits8.Tie as tie
 
 cast-result : tie.Need-cast-result
 cast-result c = search to-zig
