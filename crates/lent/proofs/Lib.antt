@@ -1,0 +1,2 @@
+pub mod Thin
+pub mod Kept
