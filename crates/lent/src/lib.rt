@@ -1,13 +1,22 @@
 // A reader that keeps the lent bytes beside its state: thin calls over those of `input` and `skip`. Each hands back what that call answers, and the
-// reader with the next state. No caller's function that holds such a reader is covered by the borrow checker, so each is proved by hand.
+// reader with the next state. The borrow checker covers no function that holds such a reader, so each is proved by hand.
 ghost use mathlib.Core.Path.{_≡_};
-ghost use Rattle.lent.specs.Lent.{lentField};
+ghost use Rattle.lent.specs.Lent.{lentMessage, lentField, lentSkip};
+use input::DoneAnswer;
 use input::FieldAnswer;
+use input::MessageAnswer;
 use input::TCompactInputProtocol;
+use types::TType;
 
+// The fields stand in the order in which the calls of `input` and `skip` take them.
 pub struct LentReader<'a> {
     pub state: TCompactInputProtocol,
     pub bytes: &'a [u8],
+}
+
+pub struct LentMessage<'a> {
+    pub answer: MessageAnswer,
+    pub reader: LentReader<'a>,
 }
 
 pub struct LentField<'a> {
@@ -15,13 +24,46 @@ pub struct LentField<'a> {
     pub reader: LentReader<'a>,
 }
 
+pub struct LentDone<'a> {
+    pub answer: DoneAnswer,
+    pub reader: LentReader<'a>,
+}
+
 impl<'a> LentReader<'a> {
+    pub fn read_message_begin(self) -> LentMessage<'a>
+        ensures { λ r. ⌜ r ≡ lentMessage (self .entry) ⌝ }
+    {
+        let read = self.state.read_message_begin(self.bytes);
+        let state = read.state;
+        LentMessage {
+            answer: read.answer,
+            reader: LentReader {
+                state,
+                bytes: self.bytes,
+            },
+        }
+    }
+
     pub fn read_field_begin(self) -> LentField<'a>
         ensures { λ r. ⌜ r ≡ lentField (self .entry) ⌝ }
     {
         let read = self.state.read_field_begin(self.bytes);
         let state = read.state;
         LentField {
+            answer: read.answer,
+            reader: LentReader {
+                state,
+                bytes: self.bytes,
+            },
+        }
+    }
+
+    pub fn skip(self, kind: TType) -> LentDone<'a>
+        ensures { λ r. ⌜ r ≡ lentSkip (self .entry) kind ⌝ }
+    {
+        let read = skip::skip(self.state, self.bytes, kind);
+        let state = read.state;
+        LentDone {
             answer: read.answer,
             reader: LentReader {
                 state,

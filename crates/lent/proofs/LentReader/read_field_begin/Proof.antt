@@ -91,7 +91,7 @@ module _ {M : Type 1} (𝓤 : URA M) (H : Heap 𝓤) (A : Atoms 𝓤) (W : Given
       split3 ! $ frame ! $ frame ! $ by ! (own-shut 𝓤 H A W (G.the-type (namedLft 1 0 tt (κ, tt))) (G′.the-laws (namedLft 1 0 tt (κ, tt))) (r .answer, (at d (r .state), tt)))
 
   module _ (C : Calls 𝓤 H) (Λ : Loops 𝓤 H) (fm : FmC 𝓤 H (W .laws) C) (known : Triple 𝓤 (C #plain) (Plain 𝓤 H A mem run)) where
-    covered : Covered E′.mir (N.the-type .name) (G.the-type (namedLft 1 0 tt (κ, tt)) .name) #plain 𝓤 H A W C Λ fm (state-val (d .state)) (d .bytes) ReadField answer-val (λ r. state-val (r .state)) (Known 𝓤 H A W κ q d N.the-row found)
+    covered : Covered E′.mir (N.the-type .name) (G.the-type (namedLft 1 0 tt (κ, tt)) .name) #plain 𝓤 H A W C Λ fm (state-val (d .state)) (d .bytes) [] ReadField answer-val (λ r. state-val (r .state)) (Known 𝓤 H A W κ q d N.the-row found)
         (onEntry 𝓤 H A lent.signature (κ, tt) (q, tt) (d, tt) (reader-val d ∷ [], tt)) (Plain 𝓤 H A mem run .pre to) (‵ (Whole 𝓤 H A W κ q d ftrue)) (Tok 𝓤 H A W κ q d) (Plain 𝓤 H A mem run .post to) Post
     covered = record {
       apart = apart 𝓤 H A W κ q d ftrue (qed W (‵ ftrue ∷ []) ∵ nothing ! $ done !);
