@@ -1,6 +1,8 @@
 -- What the calls over a reader with its bytes answer: what the same calls answer over the bytes and the state, and the reader behind them. Assumes nothing:
 -- these are definitions.
-use denote.Ref.{now}
+use Prim.Native.Nat.{ℕ}
+use mathlib.Core.List.{List}
+use denote.Ref.{RefT, now}
 use Rattle.types.specs.declared.TType.{TType}
 use Rattle.input.specs.State.{State}
 use Rattle.input.specs.Calls.{readMessage, readField}
@@ -13,9 +15,13 @@ use Rattle.lent.specs.declared.LentMessage.{LentMessage}
 use Rattle.lent.specs.declared.LentField.{LentField}
 use Rattle.lent.specs.declared.LentDone.{LentDone}
 
+-- a reader of a state and the bytes that it is lent
+abbrev pub lent : State → RefT (List ℕ) → LentReader
+lent st s = record { state = st; bytes = s }
+
 -- the same bytes, at the state that a call handed back
 abbrev pub at : LentReader → State → LentReader
-at r st = record { state = st; bytes = r .bytes }
+at r st = lent st (r .bytes)
 
 -- a call's answer, and the reader behind it
 abbrev pub handMessage : LentReader → ReadMessage → LentMessage

@@ -1,7 +1,7 @@
 // A reader that keeps the lent bytes beside its state: thin calls over those of `input` and `skip`. Each hands back what that call answers, and the
 // reader with the next state. The borrow checker covers no function that holds such a reader, so each is proved by hand.
 ghost use mathlib.Core.Path.{_≡_};
-ghost use Rattle.lent.specs.Lent.{lentMessage, lentField, lentSkip};
+ghost use Rattle.lent.specs.Lent.{lent, lentMessage, lentField, lentSkip};
 use input::DoneAnswer;
 use input::FieldAnswer;
 use input::MessageAnswer;
@@ -30,6 +30,18 @@ pub struct LentDone<'a> {
 }
 
 impl<'a> LentReader<'a> {
+    pub fn new(state: TCompactInputProtocol, bytes: &'a [u8]) -> LentReader<'a>
+        ensures { λ r. ⌜ r ≡ lent state (bytes .entry) ⌝ }
+    {
+        LentReader { state, bytes }
+    }
+
+    pub fn into_state(self) -> TCompactInputProtocol
+        ensures { λ r. ⌜ r ≡ self .entry .state ⌝ }
+    {
+        self.state
+    }
+
     pub fn read_message_begin(self) -> LentMessage<'a>
         ensures { λ r. ⌜ r ≡ lentMessage (self .entry) ⌝ }
     {
