@@ -1,2 +1,5 @@
 pub mod Thin
 pub mod Kept
+pub mod Answers
+pub mod Meets
+pub mod Three

@@ -43,19 +43,20 @@ typed-two σ σ′ ν a b s t = (both (hasTy σ a) (hasTy σ′ b) (s .0) (t .0)
 abbrev bytes-ty : Ty
 bytes-ty = sliceTy (tyRef erased imm (tyInt w8))
 
+-- the struct ν of an answer of the type τ and a state; and the struct ν of the same answer and a reader
+abbrev pub read-ty : Ty → Sym → Ty
+read-ty τ ν = tyStruct ν (tcons τ (tcons R′.mir tnil))
+
+abbrev pub handed-ty : Ty → Sym → Ty
+handed-ty τ ν = tyStruct ν (tcons τ (tcons (T′.mir (named 0)) tnil))
+
 -- A thin call: f is the covered call, whose answer is a struct ν of something of the type τ and the next state; what is handed back is a struct ν′ of the same
 -- something and the reader. `thin` has no parameter but the reader; `thin-with` has one more, of the type σ, which is passed on.
 module _ (τ : Ty) (ν ν′ : Sym) (f : Name) where
-  abbrev pub read-ty : Ty
-  read-ty = tyStruct ν (tcons τ (tcons R′.mir tnil))
-
-  abbrev pub handed-ty : Ty
-  handed-ty = tyStruct ν′ (tcons τ (tcons (T′.mir (named 0)) tnil))
-
   -- the locals behind the parameters
   abbrev inner : List Local
   inner =
-      local read-ty valueLocal ∷ local R′.mir valueLocal ∷ local R′.mir valueLocal ∷ local bytes-ty valueLocal ∷ local bytes-ty valueLocal
+      local (read-ty τ ν) valueLocal ∷ local R′.mir valueLocal ∷ local R′.mir valueLocal ∷ local bytes-ty valueLocal ∷ local bytes-ty valueLocal
       ∷ local (T′.mir erased) valueLocal ∷ []
 
   -- the body: n is the number of the first of them, and `more` is what is passed on
@@ -76,7 +77,7 @@ module _ (τ : Ty) (ν ν′ : Sym) (f : Name) where
         lifetimes = 1;
         outlives = [];
         params = 1;
-        locals = local handed-ty valueLocal ∷ local (T′.mir (named 0)) valueLocal ∷ inner;
+        locals = local (handed-ty τ ν′) valueLocal ∷ local (T′.mir (named 0)) valueLocal ∷ inner;
         body = body 2 [];
       }
 
@@ -86,7 +87,7 @@ module _ (τ : Ty) (ν ν′ : Sym) (f : Name) where
         lifetimes = 1;
         outlives = [];
         params = 2;
-        locals = local handed-ty valueLocal ∷ local (T′.mir (named 0)) valueLocal ∷ local σ valueLocal ∷ inner;
+        locals = local (handed-ty τ ν′) valueLocal ∷ local (T′.mir (named 0)) valueLocal ∷ local σ valueLocal ∷ inner;
         body = body 3 (copy (place 2 []) ∷ []);
       }
 
@@ -102,7 +103,7 @@ module _ (τ : Ty) (ν ν′ : Sym) (f : Name) where
         pub met : ent 𝓤 Pre (C f (s ∷ b ∷ more) Q)
         pub gives : (u : Val) → ent 𝓤 (Q u) (mean 𝓤 H A (later (some (λ (r : Read). given (Known r u) Tok))))
         pub tells : (r : Read) (u : Val) → Known r u → u ≡ two (answer r) (state r)
-        pub typed : (r : Read) (u : Val) → Known r u → Typed read-ty u
+        pub typed : (r : Read) (u : Val) → Known r u → Typed (read-ty τ ν) u
         pub typed-answer : (r : Read) (u : Val) → Known r u → Typed τ (answer r)
         pub typed-state : (r : Read) (u : Val) → Known r u → Typed R′.mir (state r)
         pub exits : (r : Read) (u : Val) → Known r u → ent 𝓤 (⋆ 𝓤 H A (Tok ∷ Own ∷ [])) (Post (two (answer r) (two (state r) b)))
@@ -112,7 +113,7 @@ module _ (τ : Ty) (ν ν′ : Sym) (f : Name) where
         typed-reader : Typed (T′.mir (named 0)) (two (state r) b)
         typed-reader = typed-two R′.mir bytes-ty [] (state r) b (c .typed-state r u k) (tt, wt .1 .1 .0)
 
-        typed-handed : Typed handed-ty (two (answer r) (two (state r) b))
+        typed-handed : Typed (handed-ty τ ν′) (two (answer r) (two (state r) b))
         typed-handed = typed-two τ (T′.mir (named 0)) ν′ (answer r) (two (state r) b) (c .typed-answer r u k) typed-reader
 
   module _ {M : Type 1} (𝓤 : URA M) (H : Heap 𝓤) (A : Atoms 𝓤) (W : Given 𝓤 H A) (C : Calls 𝓤 H) (Λ : Loops 𝓤 H) (fm : FmC 𝓤 H (W .laws) C) (s : Val) (x : RefT (List ℕ)) where
@@ -132,7 +133,7 @@ module _ (τ : Ty) (ν ν′ : Sym) (f : Name) where
           calls-from ! fm (raw Pre) (s ∷ v ∷ []) Q (c .met) (and-then ! (load ! (from ! (stop !)) (look ! 8 refl)) (and-then ! (load ! (from ! (stop !)) (look ! 6 refl)) (no-more !))) (λ u.
           use1 W (later (some (λ (r : Read). given (Known r u) Tok))) (c .gives u) $ await ! tt $ pick ! (λ r. learn ! (λ k.
           -- [the tokens; what the struct owns; _7; 𝓤 H A W C Λ fm s x [] Read answer state Known Entry Pre Own Tok Q Post; _6; 𝓤 H A W C Λ fm s x [] Read answer state Known Entry Pre Own Tok Q Post; _5; 𝓤 H A W C Λ fm s x [] Read answer state Known Entry Pre Own Tok Q Post; _4; 𝓤 H A W C Λ fm s x [] Read answer state Known Entry Pre Own Tok Q Post; _3; 𝓤 H A W C Λ fm s x [] Read answer state Known Entry Pre Own Tok Q Post; room for _2; 𝓤 H A W C Λ fm s x [] Read answer state Known Entry Pre Own Tok Q Post; _1; 𝓤 H A W C Λ fm s x [] Read answer state Known Entry Pre Own Tok Q Post; _0; 𝓤 H A W C Λ fm s x [] Read answer state Known Entry Pre Own Tok Q Post]
-          land ! (from ! (stop !)) (init ! 12 refl (c .typed r u k)) $ rewrite ! 12 (λ (w : Val). ‵ (fat fullShare read-ty l₂ 0 w)) (c .tells r u k) refl $
+          land ! (from ! (stop !)) (init ! 12 refl (c .typed r u k)) $ rewrite ! 12 (λ (w : Val). ‵ (fat fullShare (read-ty τ ν) l₂ 0 w)) (c .tells r u k) refl $
           assigns ! (of-opd ! (load ! (from ! (fld ! refl (stop !))) (look-in ! 12 (sub ! 1 refl (whole !))))) (from ! (stop !)) (init ! 10 refl (c .typed-state r u k)) $
           assigns ! (of-opd ! (load ! (from ! (fld ! refl (stop !))) (look-in ! 14 (sub ! 1 refl (whole !))))) (from ! (stop !)) (init ! 4 refl (tt, wt .1 .1 .0)) $
           assigns ! (agg ! (and-then ! (load ! (from ! (stop !)) (look ! 10 refl)) (and-then ! (load ! (from ! (stop !)) (look ! 4 refl)) (no-more !)))) (from ! (stop !))
@@ -153,7 +154,7 @@ module _ (τ : Ty) (ν ν′ : Sym) (f : Name) where
           calls-from ! fm (raw Pre) (s ∷ v ∷ e ∷ []) Q (c .met) (and-then ! (load ! (from ! (stop !)) (look ! 8 refl)) (and-then ! (load ! (from ! (stop !)) (look ! 6 refl)) (and-then ! (load ! (from ! (stop !)) (look ! 14 refl)) (no-more !)))) (λ u.
           use1 W (later (some (λ (r : Read). given (Known r u) Tok))) (c .gives u) $ await ! tt $ pick ! (λ r. learn ! (λ k.
           -- [the tokens; what the struct owns; _7; 𝓤 H A W C Λ fm s x (e ∷ []) Read answer state Known Entry Pre Own Tok Q Post; _6; 𝓤 H A W C Λ fm s x (e ∷ []) Read answer state Known Entry Pre Own Tok Q Post; _5; 𝓤 H A W C Λ fm s x (e ∷ []) Read answer state Known Entry Pre Own Tok Q Post; _4; 𝓤 H A W C Λ fm s x (e ∷ []) Read answer state Known Entry Pre Own Tok Q Post; _3; 𝓤 H A W C Λ fm s x (e ∷ []) Read answer state Known Entry Pre Own Tok Q Post; room for _2; 𝓤 H A W C Λ fm s x (e ∷ []) Read answer state Known Entry Pre Own Tok Q Post; _1; 𝓤 H A W C Λ fm s x (e ∷ []) Read answer state Known Entry Pre Own Tok Q Post; _0; 𝓤 H A W C Λ fm s x (e ∷ []) Read answer state Known Entry Pre Own Tok Q Post]
-          land ! (from ! (stop !)) (init ! 12 refl (c .typed r u k)) $ rewrite ! 12 (λ (w : Val). ‵ (fat fullShare read-ty l₂ 0 w)) (c .tells r u k) refl $
+          land ! (from ! (stop !)) (init ! 12 refl (c .typed r u k)) $ rewrite ! 12 (λ (w : Val). ‵ (fat fullShare (read-ty τ ν) l₂ 0 w)) (c .tells r u k) refl $
           assigns ! (of-opd ! (load ! (from ! (fld ! refl (stop !))) (look-in ! 12 (sub ! 1 refl (whole !))))) (from ! (stop !)) (init ! 10 refl (c .typed-state r u k)) $
           assigns ! (of-opd ! (load ! (from ! (fld ! refl (stop !))) (look-in ! 16 (sub ! 1 refl (whole !))))) (from ! (stop !)) (init ! 4 refl (tt, wt .1 .1 .0)) $
           assigns ! (agg ! (and-then ! (load ! (from ! (stop !)) (look ! 10 refl)) (and-then ! (load ! (from ! (stop !)) (look ! 4 refl)) (no-more !)))) (from ! (stop !))
