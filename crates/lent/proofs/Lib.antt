@@ -3,3 +3,4 @@ pub mod Kept
 pub mod Answers
 pub mod Meets
 pub mod Three
+pub mod Use

@@ -74,6 +74,9 @@ module _ (Z : Answering) (f : Name) (found : List ℕ → State → Z .Read) whe
     abbrev pub Plain : Contract 𝓤
     Plain = tripleOf 𝓤 H A (plain-ended .signature) (closing 𝓤 H A plain-ended (plain-clauses 𝓤))
 
+    abbrev pub Lent : Contract 𝓤
+    Lent = tripleOf 𝓤 H A (lent-ended .signature) (closing 𝓤 H A lent-ended (lent-clauses 𝓤))
+
   module _ {M : Type 1} (𝓤 : URA M) (H : Heap 𝓤) (A : Atoms 𝓤) (W : Given 𝓤 H A) (κ : Lft) (q : Share) (d : LentReader) where
     abbrev was : Z .Read
     was = found (now (d .bytes)) (d .state)
