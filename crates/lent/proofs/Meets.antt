@@ -10,9 +10,8 @@ use base.Logic.{SProp, ent, emp, via, fst∗, snd∗, exE}
 use base.Fml.{Lft, Share, ftrue}
 use prog.Wp.{Heap, Calls, Loops, WpFn, Tables}
 use ghost.Atoms.{Atoms, sem}
-use contract.Lifetimes.{Lfts}
 use contract.Monad.{fact}
-use types.Kit.{Given, ‵, _⊛_, ⋆, _$_, _∵_, !, qed, by, use2, split3, suffices, frame, done}
+use types.Kit.{Given, ‵, ⋆, _$_, _∵_, !, qed, by, suffices, done}
 use sound.WpLaws.{FmC, fmOf, WpFn-mono}
 use denote.Builtin.{u8, SliceRefOf}
 use denote.Exit.{yes}
@@ -29,7 +28,6 @@ use denote.Triple.Walked.{says, Stays, stay-none, walkOf, goes-none, Walks, ends
 use Rattle.input.specs.State.{State}
 use Rattle.input.proofs.TCompactInputProtocol as R
 use Rattle.input.proofs.TCompactInputProtocol.Laws as R′
-use Rattle.lent.specs.Lent.{at}
 use Rattle.lent.specs.declared.LentReader.{LentReader}
 use Rattle.lent.proofs.Thin.{two, thin, Covered, walk}
 use Rattle.lent.proofs.Kept.{B, D, L, Tok, Whole, Known, state-val, bytes-val, reader-val, apart, comes}

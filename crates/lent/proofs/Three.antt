@@ -4,7 +4,6 @@ use mathlib.Core.List.{[]}
 use mir.Syntax.{erased}
 use denote.Ref.{NamedLft}
 use Rattle.lent.specs.Lent.{handMessage, handField, handDone}
-use Rattle.lent.specs.declared.LentReader.{LentReader}
 use Rattle.input.specs.declared.ReadMessage.{ReadMessage}
 use Rattle.input.proofs.MessageAnswer as MessageAnswer
 use Rattle.input.proofs.MessageAnswer.Laws as MessageAnswer′

@@ -38,7 +38,7 @@ use Rattle.input.specs.State.{State}
 use Rattle.input.proofs.TCompactInputProtocol as R
 use Rattle.input.proofs.TCompactInputProtocol.Laws as R′
 use Rattle.lent.specs.Lent.{lent}
-use Rattle.lent.proofs.Kept.{B, D, L, state-val, reader-val}
+use Rattle.lent.proofs.Kept.{D, L, state-val, reader-val}
 use Rattle.lent.proofs.Thin.{Typed, typed-two}
 use Rattle.lent.proofs.LentReader.new.Key.{name as #lent}
 use Rattle.lent.proofs.LentReader.new as new
