@@ -21,7 +21,8 @@ use prog.Wp.{Heap, Out, Env, Wp, WpFn, Tables, afterSeq, afterBlock, afterTurn, 
 use ghost.Atoms.{Atoms, sem}
 use contract.Monad.{Fun, fact}
 use contract.Running.{givenOf, tables, tablesOf}
-use types.Kit.{Given, Item, Sq, prop, frees, runs, anyQ, atRet, ‵, raw, mean, _⊛_, ⋆, some, later, given, _$_, _∵_, !, qed, by, move, keep, use1, use2, split, join, pick, learn, await, drop, fsplit, fjoin, suffices, rewrite, frame, done}
+use mathlib.Core.Option.{Option, some, none}
+use types.Kit.{Given, Item, Sq, prop, frees, runs, anyQ, atRet, ‵, raw, mean, _⊛_, ⋆, some as someᴷ, later, given, _$_, _∵_, !, qed, by, move, keep, use1, use2, split, join, pick, learn, await, drop, fsplit, fjoin, suffices, rewrite, frame, done}
 use types.Part.{whole, sub, look-in, agg}
 use types.Match.{vrt, look-tag, in-variant}
 use types.Run.{look, init, store, forget, stop, fld, from, load, lit, of-opd, bin, and-then, no-more, assigns, assigns-last, land, first, blocks, skips, stays, leaves-loop, switches-on, exec, returns-within, returns, enter, alloc1, alloc0, params1, pass1, pass0, free1, free0}
@@ -129,6 +130,17 @@ counted-val r = EL.val C.the-type C′.the-laws r
 abbrev stayed : Stays (count.ended .signature .params) (count.ended .kept)
 stayed = (stay-none (λ _. R.the-row) yes, (stay-none-slice (0 ∷ []) tt (plain (λ _. u8)) yes, tt))
 
+-- ---- a function's locals in a walk, the first at the back: each holds a value or is room, as those past the end of the list are, and dies at the end
+module _ {M : Type 1} (𝓤 : URA M) (H : Heap 𝓤) (A : Atoms 𝓤) where
+  abbrev one : Ty → ℕ → Option Val → Item 𝓤
+  one τ l (some w) = ‵ (fat fullShare τ l 0 w)
+  one τ l none = ‵ (froom τ l 0)
+
+  abbrev laid : Env 𝓤 H → List (Option Val) → List (Item 𝓤) → List (Item 𝓤)
+  laid [] cs Γ = Γ
+  laid ((τ, l) ∷ E) [] Γ = laid E [] (‵ (froom τ l 0) ∷ ‵ (fdies τ l) ∷ Γ)
+  laid ((τ, l) ∷ E) (c ∷ cs) Γ = laid E cs (one τ l c ∷ ‵ (fdies τ l) ∷ Γ)
+
 -- ---- tests
 below : (i n : ℕ) → i < n → ltb i n ≡ true
 below i n h = holds (ltb i n) (lt→ltb i n h)
@@ -151,9 +163,9 @@ abbrev kind-val : TType → Val
 kind-val kind = EL.val K.the-type K′.the-laws kind
 
 -- ---- the definition, turn by turn
-none : (s : List ℕ) (at : State) (n : ℕ) → Refused END ≡ countFrom zero s at n
+runs-out : (s : List ℕ) (at : State) (n : ℕ) → Refused END ≡ countFrom zero s at n
 unfolding countFrom
-none s at n = refl
+runs-out s at n = refl
 
 module _ (s : List ℕ) (at : State) (t n : ℕ) where
   abbrev value : TType → Counted
@@ -264,7 +276,7 @@ module _ {M : Type 1} (𝓤 : URA M) (H : Heap 𝓤) (A : Atoms 𝓤) (W : Given
       nothing ! $ move ! (1 ∷ 0 ∷ []) $ fjoin ! $ owned ! R.the-row (Is R.the-row) (LL.makes R.the-type R′.the-plain 𝓤 H A) st _ is $ fjoin ! $
       move ! (2 ∷ 0 ∷ []) $ join ! $ nothing ! $ move ! (1 ∷ 0 ∷ []) $ join ! $ done !
 
-  new-gives : (u : Val) → ent 𝓤 (New 𝓤 H A mem run .post new-passed u) (mean 𝓤 H A (later (some (λ (h : LentReader). given (Known 𝓤 H A W κ q (lent st s) (B (κ, tt)) (lent st s) h u) tok))))
+  new-gives : (u : Val) → ent 𝓤 (New 𝓤 H A mem run .post new-passed u) (mean 𝓤 H A (later (someᴷ (λ (h : LentReader). given (Known 𝓤 H A W κ q (lent st s) (B (κ, tt)) (lent st s) h u) tok))))
   new-gives = comes 𝓤 H A W κ q (lent st s) (B (κ, tt)) (lent st s) (ensured 𝓤 H A making.ended (making.clauses 𝓤 H A mem run) (κ, tt) (st, (s, tt)) tt)
       (λ h. exE 𝓤 _ (λ ws. snd∗ 𝓤 (sem 𝓤 H A (lasts making.ended (κ, tt) (st, (s, tt)) ws)) (fact 𝓤 (h ≡ lent st s))))
 
@@ -283,7 +295,7 @@ module _ {M : Type 1} (𝓤 : URA M) (H : Heap 𝓤) (A : Atoms 𝓤) (W : Given
   skip-said at kind h = exE 𝓤 _ (λ ws. snd∗ 𝓤 (sem 𝓤 H A (lasts skipping.ended (κ, tt) (lent at s, (kind, tt)) ws)) (fact 𝓤 (h ≡ handDone (lent at s) (skipCall (now s) at kind))))
 
   skip-gives : (at : State) (kind : TType) (u : Val) → ent 𝓤 (Skipping 𝓤 H A mem run .post (skip-passed at kind) u)
-      (mean 𝓤 H A (later (some (λ (h : LentDone). given (Known 𝓤 H A W κ q (lent at s) (row (G over (namedLft 1 0 tt (κ, tt)))) (handDone (lent at s) (skipCall (now s) at kind)) h u) (Tok 𝓤 H A W κ q (lent at s))))))
+      (mean 𝓤 H A (later (someᴷ (λ (h : LentDone). given (Known 𝓤 H A W κ q (lent at s) (row (G over (namedLft 1 0 tt (κ, tt)))) (handDone (lent at s) (skipCall (now s) at kind)) h u) (Tok 𝓤 H A W κ q (lent at s))))))
   skip-gives at kind = comes 𝓤 H A W κ q (lent at s) (row (G over (namedLft 1 0 tt (κ, tt)))) (handDone (lent at s) (skipCall (now s) at kind)) (ensured 𝓤 H A skipping.ended (skipping.clauses 𝓤 H A mem run) (κ, tt) (lent at s, (kind, tt)) tt) (skip-said at kind)
 
   module _ (𝓣 : Tables 𝓤 H) (is₀ : Is R.the-row st (state-val st ∷ [])) (p : Is (ShrSlice (named 0) κ u8) s (v ∷ [])) (l₀ l₁ l₂ l₃ l₄ l₅ l₆ l₇ l₈ l₉ l₁₀ l₁₁ l₁₂ l₁₃ l₁₄ l₁₅ l₁₆ l₁₇ : ℕ) where
@@ -292,14 +304,14 @@ module _ {M : Type 1} (𝓤 : URA M) (H : Heap 𝓤) (A : Atoms 𝓤) (W : Given
 
     -- every local is room
     abbrev Rooms : List (Item 𝓤)
-    Rooms = tok ∷ sl ∷ ‵ (froom reader-ty l₁₇ 0) ∷ ‵ (fdies reader-ty l₁₇) ∷ ‵ (froom P′.mir l₁₆ 0) ∷ ‵ (fdies P′.mir l₁₆) ∷ ‵ (froom reader-ty l₁₅ 0) ∷ ‵ (fdies reader-ty l₁₅) ∷ ‵ (froom tyBool l₁₄ 0) ∷ ‵ (fdies tyBool l₁₄) ∷ ‵ (froom (tyInt w64) l₁₃ 0) ∷ ‵ (fdies (tyInt w64) l₁₃) ∷ ‵ (froom reader-ty l₁₂ 0) ∷ ‵ (fdies reader-ty l₁₂) ∷ ‵ (froom (tyInt w8) l₁₁ 0) ∷ ‵ (fdies (tyInt w8) l₁₁) ∷ ‵ (froom done-ty l₁₀ 0) ∷ ‵ (fdies done-ty l₁₀) ∷ ‵ (froom K′.mir l₉ 0) ∷ ‵ (fdies K′.mir l₉) ∷ ‵ (froom (tyInt w8) l₈ 0) ∷ ‵ (fdies (tyInt w8) l₈) ∷ ‵ (froom field-ty l₇ 0) ∷ ‵ (fdies field-ty l₇) ∷ ‵ (froom (tyInt w64) l₆ 0) ∷ ‵ (fdies (tyInt w64) l₆) ∷ ‵ (froom reader-ty l₅ 0) ∷ ‵ (fdies reader-ty l₅) ∷ ‵ (froom (tyInt w8) l₄ 0) ∷ ‵ (fdies (tyInt w8) l₄) ∷ ‵ (froom message-ty l₃ 0) ∷ ‵ (fdies message-ty l₃) ∷ ‵ (froom slice-ty l₂ 0) ∷ ‵ (fdies slice-ty l₂) ∷ ‵ (froom R′.mir l₁ 0) ∷ ‵ (fdies R′.mir l₁) ∷ ‵ (froom C′.mir l₀ 0) ∷ ‵ (fdies C′.mir l₀) ∷ []
+    Rooms = tok ∷ sl ∷ laid 𝓤 H A En [] []
 
     freeing : {P : SProp 𝓤} → ent 𝓤 (⋆ 𝓤 H A (tok ∷ sl ∷ [])) P → Sq W Rooms (frees En (prop P))
     freeing h = move ! (36 ∷ 37 ∷ []) $ free1 ! $ move ! (34 ∷ 35 ∷ []) $ free1 ! $ move ! (32 ∷ 33 ∷ []) $ free1 ! $ move ! (30 ∷ 31 ∷ []) $ free1 ! $ move ! (28 ∷ 29 ∷ []) $ free1 ! $ move ! (26 ∷ 27 ∷ []) $ free1 ! $ move ! (24 ∷ 25 ∷ []) $ free1 ! $ move ! (22 ∷ 23 ∷ []) $ free1 ! $ move ! (20 ∷ 21 ∷ []) $ free1 ! $ move ! (18 ∷ 19 ∷ []) $ free1 ! $ move ! (16 ∷ 17 ∷ []) $ free1 ! $ move ! (14 ∷ 15 ∷ []) $ free1 ! $ move ! (12 ∷ 13 ∷ []) $ free1 ! $ move ! (10 ∷ 11 ∷ []) $ free1 ! $ move ! (8 ∷ 9 ∷ []) $ free1 ! $ move ! (6 ∷ 7 ∷ []) $ free1 ! $ move ! (4 ∷ 5 ∷ []) $ free1 ! $ move ! (2 ∷ 3 ∷ []) $ free1 ! $ free0 ! $ by ! h
 
     -- before a turn: n fields are counted, and the reader is at the state `at`
     abbrev At : ℕ → State → List (Item 𝓤)
-    At n at = tok ∷ sl ∷ ‵ (froom reader-ty l₁₇ 0) ∷ ‵ (fdies reader-ty l₁₇) ∷ ‵ (froom P′.mir l₁₆ 0) ∷ ‵ (fdies P′.mir l₁₆) ∷ ‵ (froom reader-ty l₁₅ 0) ∷ ‵ (fdies reader-ty l₁₅) ∷ ‵ (froom tyBool l₁₄ 0) ∷ ‵ (fdies tyBool l₁₄) ∷ ‵ (froom (tyInt w64) l₁₃ 0) ∷ ‵ (fdies (tyInt w64) l₁₃) ∷ ‵ (froom reader-ty l₁₂ 0) ∷ ‵ (fdies reader-ty l₁₂) ∷ ‵ (froom (tyInt w8) l₁₁ 0) ∷ ‵ (fdies (tyInt w8) l₁₁) ∷ ‵ (froom done-ty l₁₀ 0) ∷ ‵ (fdies done-ty l₁₀) ∷ ‵ (froom K′.mir l₉ 0) ∷ ‵ (fdies K′.mir l₉) ∷ ‵ (froom (tyInt w8) l₈ 0) ∷ ‵ (fdies (tyInt w8) l₈) ∷ ‵ (froom field-ty l₇ 0) ∷ ‵ (fdies field-ty l₇) ∷ ‵ (fat fullShare (tyInt w64) l₆ 0 (vint w64 n)) ∷ ‵ (fdies (tyInt w64) l₆) ∷ ‵ (fat fullShare reader-ty l₅ 0 (reader-val (lent at s))) ∷ ‵ (fdies reader-ty l₅) ∷ ‵ (froom (tyInt w8) l₄ 0) ∷ ‵ (fdies (tyInt w8) l₄) ∷ ‵ (froom message-ty l₃ 0) ∷ ‵ (fdies message-ty l₃) ∷ ‵ (fat fullShare slice-ty l₂ 0 v) ∷ ‵ (fdies slice-ty l₂) ∷ ‵ (fat fullShare R′.mir l₁ 0 (state-val st)) ∷ ‵ (fdies R′.mir l₁) ∷ ‵ (froom C′.mir l₀ 0) ∷ ‵ (fdies C′.mir l₀) ∷ []
+    At n at = tok ∷ sl ∷ laid 𝓤 H A En (none ∷ some (state-val st) ∷ some v ∷ none ∷ none ∷ some (reader-val (lent at s)) ∷ some (vint w64 n) ∷ []) []
 
     -- ---- what is typed
     lies : Typed slice-ty v
@@ -344,14 +356,19 @@ module _ {M : Type 1} (𝓤 : URA M) (H : Heap 𝓤) (A : Atoms 𝓤) (W : Given
     after at = readField (now s) at .state
 
     abbrev Read : ℕ → State → FieldAnswer → List (Item 𝓤)
-    Read n at a = tok ∷ sl ∷ ‵ (froom reader-ty l₁₇ 0) ∷ ‵ (fdies reader-ty l₁₇) ∷ ‵ (froom P′.mir l₁₆ 0) ∷ ‵ (fdies P′.mir l₁₆) ∷ ‵ (fat fullShare reader-ty l₁₅ 0 (reader-val (lent at s))) ∷ ‵ (fdies reader-ty l₁₅) ∷ ‵ (fat fullShare tyBool l₁₄ 0 (vbool true)) ∷ ‵ (fdies tyBool l₁₄) ∷ ‵ (fat fullShare (tyInt w64) l₁₃ 0 (vint w64 (length (s .now)))) ∷ ‵ (fdies (tyInt w64) l₁₃) ∷ ‵ (froom reader-ty l₁₂ 0) ∷ ‵ (fdies reader-ty l₁₂) ∷ ‵ (froom (tyInt w8) l₁₁ 0) ∷ ‵ (fdies (tyInt w8) l₁₁) ∷ ‵ (froom done-ty l₁₀ 0) ∷ ‵ (fdies done-ty l₁₀) ∷ ‵ (froom K′.mir l₉ 0) ∷ ‵ (fdies K′.mir l₉) ∷ ‵ (froom (tyInt w8) l₈ 0) ∷ ‵ (fdies (tyInt w8) l₈) ∷ ‵ (fat fullShare field-ty l₇ 0 (two (answer-val field a) (reader-val (lent (after at) s)))) ∷ ‵ (fdies field-ty l₇) ∷ ‵ (fat fullShare (tyInt w64) l₆ 0 (vint w64 n)) ∷ ‵ (fdies (tyInt w64) l₆) ∷ ‵ (fat fullShare reader-ty l₅ 0 (reader-val (lent at s))) ∷ ‵ (fdies reader-ty l₅) ∷ ‵ (froom (tyInt w8) l₄ 0) ∷ ‵ (fdies (tyInt w8) l₄) ∷ ‵ (froom message-ty l₃ 0) ∷ ‵ (fdies message-ty l₃) ∷ ‵ (fat fullShare slice-ty l₂ 0 v) ∷ ‵ (fdies slice-ty l₂) ∷ ‵ (fat fullShare R′.mir l₁ 0 (state-val st)) ∷ ‵ (fdies R′.mir l₁) ∷ ‵ (froom C′.mir l₀ 0) ∷ ‵ (fdies C′.mir l₀) ∷ []
+    Read n at a =
+        tok ∷ sl ∷ laid 𝓤 H A En
+        (none ∷ some (state-val st) ∷ some v ∷ none ∷ none ∷ some (reader-val (lent at s)) ∷ some (vint w64 n) ∷ some (two (answer-val field a) (reader-val (lent (after at) s))) ∷ none ∷ none ∷ none ∷ none ∷ none ∷ some (vint w64 (length (s .now))) ∷ some (vbool true) ∷ some (reader-val (lent at s)) ∷ []) []
 
     -- and the state behind the value of a field
     abbrev behind : State → TType → State
     behind at kind = skipCall (now s) (after at) kind .state
 
     abbrev Over : ℕ → State → TType → FieldId → DoneAnswer → List (Item 𝓤)
-    Over n at kind id b = tok ∷ sl ∷ ‵ (fat fullShare reader-ty l₁₇ 0 (reader-val (lent (after at) s))) ∷ ‵ (fdies reader-ty l₁₇) ∷ ‵ (froom P′.mir l₁₆ 0) ∷ ‵ (fdies P′.mir l₁₆) ∷ ‵ (fat fullShare reader-ty l₁₅ 0 (reader-val (lent at s))) ∷ ‵ (fdies reader-ty l₁₅) ∷ ‵ (fat fullShare tyBool l₁₄ 0 (vbool true)) ∷ ‵ (fdies tyBool l₁₄) ∷ ‵ (fat fullShare (tyInt w64) l₁₃ 0 (vint w64 (length (s .now)))) ∷ ‵ (fdies (tyInt w64) l₁₃) ∷ ‵ (froom reader-ty l₁₂ 0) ∷ ‵ (fdies reader-ty l₁₂) ∷ ‵ (froom (tyInt w8) l₁₁ 0) ∷ ‵ (fdies (tyInt w8) l₁₁) ∷ ‵ (fat fullShare done-ty l₁₀ 0 (two (answer-val over b) (reader-val (lent (behind at kind) s)))) ∷ ‵ (fdies done-ty l₁₀) ∷ ‵ (fat fullShare K′.mir l₉ 0 (kind-val kind)) ∷ ‵ (fdies K′.mir l₉) ∷ ‵ (froom (tyInt w8) l₈ 0) ∷ ‵ (fdies (tyInt w8) l₈) ∷ ‵ (fat fullShare field-ty l₇ 0 (two (answer-val field (F.Field kind id)) (reader-val (lent (after at) s)))) ∷ ‵ (fdies field-ty l₇) ∷ ‵ (fat fullShare (tyInt w64) l₆ 0 (vint w64 n)) ∷ ‵ (fdies (tyInt w64) l₆) ∷ ‵ (fat fullShare reader-ty l₅ 0 (reader-val (lent at s))) ∷ ‵ (fdies reader-ty l₅) ∷ ‵ (froom (tyInt w8) l₄ 0) ∷ ‵ (fdies (tyInt w8) l₄) ∷ ‵ (froom message-ty l₃ 0) ∷ ‵ (fdies message-ty l₃) ∷ ‵ (fat fullShare slice-ty l₂ 0 v) ∷ ‵ (fdies slice-ty l₂) ∷ ‵ (fat fullShare R′.mir l₁ 0 (state-val st)) ∷ ‵ (fdies R′.mir l₁) ∷ ‵ (froom C′.mir l₀ 0) ∷ ‵ (fdies C′.mir l₀) ∷ []
+    Over n at kind id b =
+        tok ∷ sl ∷ laid 𝓤 H A En
+        (none ∷ some (state-val st) ∷ some v ∷ none ∷ none ∷ some (reader-val (lent at s)) ∷ some (vint w64 n) ∷ some (two (answer-val field (F.Field kind id)) (reader-val (lent (after at) s))) ∷ none ∷ some (kind-val kind)
+        ∷ some (two (answer-val over b) (reader-val (lent (behind at kind) s))) ∷ none ∷ none ∷ some (vint w64 (length (s .now))) ∷ some (vbool true) ∷ some (reader-val (lent at s)) ∷ none ∷ some (reader-val (lent (after at) s)) ∷ []) []
 
     heads : Triple 𝓤 (𝓣 .C #field) (Lent field #field readField 𝓤 H A) → (n : ℕ) (at : State) → Is R.the-row at (state-val at ∷ []) → n < length (s .now) → (a : FieldAnswer) → readField (now s) at .answer ≡ a → (X : SProp 𝓤)
         → (Told 𝓤 H A W κ q s field at (readField (now s) at) → Sq W (Read n at a) (runs (𝓣 .C) (𝓣 .Λ) En the-match (anyQ (afterTurn 𝓤 H X Left)))) → ent 𝓤 (⋆ 𝓤 H A (At n at)) (Wp 𝓤 H (𝓣 .C) (𝓣 .Λ) En pieces.turn-1 (afterTurn 𝓤 H X Left))
@@ -479,7 +496,7 @@ module _ {M : Type 1} (𝓤 : URA M) (H : Heap 𝓤) (A : Atoms 𝓤) (W : Given
       turn-at : (t n : ℕ) (at : State) → Facts t n at → ent 𝓤 (⋆ 𝓤 H A (At n at)) (Wp 𝓤 H (𝓣 .C) (𝓣 .Λ) En pieces.turn-1 (afterTurn 𝓤 H (Below t) Left))
       turn-at zero n at f =
           subst (λ (m : ℕ). ent 𝓤 (⋆ 𝓤 H A (At m at)) (Wp 𝓤 H (𝓣 .C) (𝓣 .Λ) En pieces.turn-1 (afterTurn 𝓤 H (Below zero) Left))) (sym (f .0) ∙ add-zero n)
-          (leaves at (none (now s) at n ∙ f .1 .1) (Below zero))
+          (leaves at (runs-out (now s) at n ∙ f .1 .1) (Below zero))
       turn-at (suc t) n at f = on (readField (now s) at .answer) refl
         where
           small : n < length (s .now)
@@ -510,17 +527,19 @@ module _ {M : Type 1} (𝓤 : URA M) (H : Heap 𝓤) (A : Atoms 𝓤) (W : Given
         opened = readMessage (now s) st .state
 
         abbrev Begin : List (Item 𝓤)
-        Begin = tok ∷ sl ∷ ‵ (froom reader-ty l₁₇ 0) ∷ ‵ (fdies reader-ty l₁₇) ∷ ‵ (froom P′.mir l₁₆ 0) ∷ ‵ (fdies P′.mir l₁₆) ∷ ‵ (froom reader-ty l₁₅ 0) ∷ ‵ (fdies reader-ty l₁₅) ∷ ‵ (froom tyBool l₁₄ 0) ∷ ‵ (fdies tyBool l₁₄) ∷ ‵ (froom (tyInt w64) l₁₃ 0) ∷ ‵ (fdies (tyInt w64) l₁₃) ∷ ‵ (froom reader-ty l₁₂ 0) ∷ ‵ (fdies reader-ty l₁₂) ∷ ‵ (froom (tyInt w8) l₁₁ 0) ∷ ‵ (fdies (tyInt w8) l₁₁) ∷ ‵ (froom done-ty l₁₀ 0) ∷ ‵ (fdies done-ty l₁₀) ∷ ‵ (froom K′.mir l₉ 0) ∷ ‵ (fdies K′.mir l₉) ∷ ‵ (froom (tyInt w8) l₈ 0) ∷ ‵ (fdies (tyInt w8) l₈) ∷ ‵ (froom field-ty l₇ 0) ∷ ‵ (fdies field-ty l₇) ∷ ‵ (froom (tyInt w64) l₆ 0) ∷ ‵ (fdies (tyInt w64) l₆) ∷ ‵ (froom reader-ty l₅ 0) ∷ ‵ (fdies reader-ty l₅) ∷ ‵ (froom (tyInt w8) l₄ 0) ∷ ‵ (fdies (tyInt w8) l₄) ∷ ‵ (froom message-ty l₃ 0) ∷ ‵ (fdies message-ty l₃) ∷ ‵ (fat fullShare slice-ty l₂ 0 v) ∷ ‵ (fdies slice-ty l₂) ∷ ‵ (fat fullShare R′.mir l₁ 0 (state-val st)) ∷ ‵ (fdies R′.mir l₁) ∷ ‵ (froom C′.mir l₀ 0) ∷ ‵ (fdies C′.mir l₀) ∷ []
+        Begin = tok ∷ sl ∷ laid 𝓤 H A En (none ∷ some (state-val st) ∷ some v ∷ []) []
 
         abbrev Begun : MessageAnswer → List (Item 𝓤)
-        Begun a = tok ∷ sl ∷ ‵ (froom reader-ty l₁₇ 0) ∷ ‵ (fdies reader-ty l₁₇) ∷ ‵ (froom P′.mir l₁₆ 0) ∷ ‵ (fdies P′.mir l₁₆) ∷ ‵ (froom reader-ty l₁₅ 0) ∷ ‵ (fdies reader-ty l₁₅) ∷ ‵ (froom tyBool l₁₄ 0) ∷ ‵ (fdies tyBool l₁₄) ∷ ‵ (froom (tyInt w64) l₁₃ 0) ∷ ‵ (fdies (tyInt w64) l₁₃) ∷ ‵ (fat fullShare reader-ty l₁₂ 0 (reader-val (lent st s))) ∷ ‵ (fdies reader-ty l₁₂) ∷ ‵ (froom (tyInt w8) l₁₁ 0) ∷ ‵ (fdies (tyInt w8) l₁₁) ∷ ‵ (froom done-ty l₁₀ 0) ∷ ‵ (fdies done-ty l₁₀) ∷ ‵ (froom K′.mir l₉ 0) ∷ ‵ (fdies K′.mir l₉) ∷ ‵ (froom (tyInt w8) l₈ 0) ∷ ‵ (fdies (tyInt w8) l₈) ∷ ‵ (froom field-ty l₇ 0) ∷ ‵ (fdies field-ty l₇) ∷ ‵ (froom (tyInt w64) l₆ 0) ∷ ‵ (fdies (tyInt w64) l₆) ∷ ‵ (froom reader-ty l₅ 0) ∷ ‵ (fdies reader-ty l₅) ∷ ‵ (froom (tyInt w8) l₄ 0) ∷ ‵ (fdies (tyInt w8) l₄) ∷ ‵ (fat fullShare message-ty l₃ 0 (two (answer-val message a) (reader-val (lent opened s)))) ∷ ‵ (fdies message-ty l₃) ∷ ‵ (fat fullShare slice-ty l₂ 0 v) ∷ ‵ (fdies slice-ty l₂) ∷ ‵ (fat fullShare R′.mir l₁ 0 (state-val st)) ∷ ‵ (fdies R′.mir l₁) ∷ ‵ (froom C′.mir l₀ 0) ∷ ‵ (fdies C′.mir l₀) ∷ []
+        Begun a =
+            tok ∷ sl ∷ laid 𝓤 H A En
+            (none ∷ some (state-val st) ∷ some v ∷ some (two (answer-val message a) (reader-val (lent opened s))) ∷ none ∷ none ∷ none ∷ none ∷ none ∷ none ∷ none ∷ none ∷ some (reader-val (lent st s)) ∷ []) []
 
         begins : (a : MessageAnswer) → readMessage (now s) st .answer ≡ a
             → (Told 𝓤 H A W κ q s message st (readMessage (now s) st) → Sq W (Begun a) (runs (𝓣 .C) (𝓣 .Λ) En pieces.t-3 (atRet En Post))) → Sq W Begin (runs (𝓣 .C) (𝓣 .Λ) En pieces.t-1 (atRet En Post))
         begins a ea go =
             use2 W (raw (New 𝓤 H A mem run .pre new-passed) ⊛ sl) (new-asks is₀) $ split ! $
             calls-at ! (fmOf 𝓤 H (W .laws) 𝓣) (New 𝓤 H A mem run) news new-passed (and-then ! (load ! (from ! (stop !)) (look ! 34 refl)) (and-then ! (load ! (from ! (stop !)) (look ! 32 refl)) (no-more !))) (λ u.
-            use1 W (later (some (λ (h : LentReader). given (Known 𝓤 H A W κ q (lent st s) (B (κ, tt)) (lent st s) h u) tok))) (new-gives u) $ await ! tt $ pick ! (λ h. learn ! (λ k.
+            use1 W (later (someᴷ (λ (h : LentReader). given (Known 𝓤 H A W κ q (lent st s) (B (κ, tt)) (lent st s) h u) tok))) (new-gives u) $ await ! tt $ pick ! (λ h. learn ! (λ k.
             land ! (from ! (stop !)) (init ! 12 refl (subst (Typed reader-ty) (sym (new-val h u k)) (typed-reader st is₀))) $ rewrite ! 12 (λ (w : Val). ‵ (fat fullShare reader-ty l₁₂ 0 w)) (new-val h u k) refl $
             calling-thin 𝓤 H A W κ q s message #message readMessage st ! (fmOf 𝓤 H (W .laws) 𝓣) reads is₀ (and-then ! (load ! (from ! (stop !)) (look ! 12 refl)) (no-more !)) (λ told.
             land ! (from ! (stop !)) (init ! 30 refl (told .typed)) $
