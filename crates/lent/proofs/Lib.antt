@@ -4,3 +4,5 @@ pub mod Answers
 pub mod Meets
 pub mod Three
 pub mod Use
+pub mod Locals
+pub mod Counting
