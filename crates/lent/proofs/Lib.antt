@@ -6,3 +6,4 @@ pub mod Three
 pub mod Use
 pub mod Locals
 pub mod Counting
+pub mod Enough
