@@ -1,0 +1,211 @@
+// What a reader's call found, put where the caller lent room for it, and the next state in the row. A refusal changes neither.
+ghost use mathlib.Core.Path.{_≡_};
+ghost use Rattle.input.specs.Answers.{numberBool, numberI8, numberI16, numberI32, numberI64, numberDouble, numberPart, numberList, numberMap, numberField, numberMessage, numberDone};
+ghost use Rattle.host.specs.Row.{readerAfter};
+ghost use Rattle.host.specs.Reads.{outBool, outI8, outI16, outI32, outI64, outDouble, partStart, partEnd, listKind, listCount, mapKey, mapValue, mapCount, fieldKind, fieldId, messageKind, messageSequence, nameStart, nameEnd};
+use crate::row;
+use input::BoolAnswer;
+use input::DoneAnswer;
+use input::DoubleAnswer;
+use input::FieldAnswer;
+use input::I16Answer;
+use input::I32Answer;
+use input::I64Answer;
+use input::I8Answer;
+use input::ListAnswer;
+use input::MapAnswer;
+use input::MessageAnswer;
+use input::PartAnswer;
+use input::ReadBool;
+use input::ReadDone;
+use input::ReadDouble;
+use input::ReadField;
+use input::ReadI16;
+use input::ReadI32;
+use input::ReadI64;
+use input::ReadI8;
+use input::ReadList;
+use input::ReadMap;
+use input::ReadMessage;
+use input::ReadPart;
+
+pub(crate) fn told_bool(row: &mut [u64], read: ReadBool, value: &mut bool) -> u8
+    ensures { λ r. ⌜ (r ≡ numberBool (read .answer)) × (now (value .exit) ≡ outBool (now (value .entry)) (read .answer)) × (now (row .exit) ≡ readerAfter (now (row .entry)) (numberBool (read .answer)) (read .state)) ⌝ }
+{
+    let state = read.state;
+    let answer = read.answer;
+    match answer {
+        BoolAnswer::Got(v) => {
+            *value = v;
+            row::keep_reader(row, 0, state)
+        }
+        BoolAnswer::Refused(why) => row::keep_reader(row, why, state),
+    }
+}
+
+pub(crate) fn told_i8(row: &mut [u64], read: ReadI8, value: &mut i8) -> u8
+    ensures { λ r. ⌜ (r ≡ numberI8 (read .answer)) × (now (value .exit) ≡ outI8 (now (value .entry)) (read .answer)) × (now (row .exit) ≡ readerAfter (now (row .entry)) (numberI8 (read .answer)) (read .state)) ⌝ }
+{
+    let state = read.state;
+    let answer = read.answer;
+    match answer {
+        I8Answer::Got(v) => {
+            *value = v;
+            row::keep_reader(row, 0, state)
+        }
+        I8Answer::Refused(why) => row::keep_reader(row, why, state),
+    }
+}
+
+pub(crate) fn told_i16(row: &mut [u64], read: ReadI16, value: &mut i16) -> u8
+    ensures { λ r. ⌜ (r ≡ numberI16 (read .answer)) × (now (value .exit) ≡ outI16 (now (value .entry)) (read .answer)) × (now (row .exit) ≡ readerAfter (now (row .entry)) (numberI16 (read .answer)) (read .state)) ⌝ }
+{
+    let state = read.state;
+    let answer = read.answer;
+    match answer {
+        I16Answer::Got(v) => {
+            *value = v;
+            row::keep_reader(row, 0, state)
+        }
+        I16Answer::Refused(why) => row::keep_reader(row, why, state),
+    }
+}
+
+pub(crate) fn told_i32(row: &mut [u64], read: ReadI32, value: &mut i32) -> u8
+    ensures { λ r. ⌜ (r ≡ numberI32 (read .answer)) × (now (value .exit) ≡ outI32 (now (value .entry)) (read .answer)) × (now (row .exit) ≡ readerAfter (now (row .entry)) (numberI32 (read .answer)) (read .state)) ⌝ }
+{
+    let state = read.state;
+    let answer = read.answer;
+    match answer {
+        I32Answer::Got(v) => {
+            *value = v;
+            row::keep_reader(row, 0, state)
+        }
+        I32Answer::Refused(why) => row::keep_reader(row, why, state),
+    }
+}
+
+pub(crate) fn told_i64(row: &mut [u64], read: ReadI64, value: &mut i64) -> u8
+    ensures { λ r. ⌜ (r ≡ numberI64 (read .answer)) × (now (value .exit) ≡ outI64 (now (value .entry)) (read .answer)) × (now (row .exit) ≡ readerAfter (now (row .entry)) (numberI64 (read .answer)) (read .state)) ⌝ }
+{
+    let state = read.state;
+    let answer = read.answer;
+    match answer {
+        I64Answer::Got(v) => {
+            *value = v;
+            row::keep_reader(row, 0, state)
+        }
+        I64Answer::Refused(why) => row::keep_reader(row, why, state),
+    }
+}
+
+pub(crate) fn told_double(row: &mut [u64], read: ReadDouble, bits: &mut u64) -> u8
+    ensures { λ r. ⌜ (r ≡ numberDouble (read .answer)) × (now (bits .exit) ≡ outDouble (now (bits .entry)) (read .answer)) × (now (row .exit) ≡ readerAfter (now (row .entry)) (numberDouble (read .answer)) (read .state)) ⌝ }
+{
+    let state = read.state;
+    let answer = read.answer;
+    match answer {
+        DoubleAnswer::Got(v) => {
+            *bits = v;
+            row::keep_reader(row, 0, state)
+        }
+        DoubleAnswer::Refused(why) => row::keep_reader(row, why, state),
+    }
+}
+
+pub(crate) fn told_part(row: &mut [u64], read: ReadPart, start: &mut usize, end: &mut usize) -> u8
+    ensures { λ r. ⌜ (r ≡ numberPart (read .answer)) × (now (start .exit) ≡ partStart (now (start .entry)) (read .answer)) × (now (end .exit) ≡ partEnd (now (end .entry)) (read .answer)) × (now (row .exit) ≡ readerAfter (now (row .entry)) (numberPart (read .answer)) (read .state)) ⌝ }
+{
+    let state = read.state;
+    let answer = read.answer;
+    match answer {
+        PartAnswer::Got(a, e) => {
+            *start = a.0;
+            *end = e.0;
+            row::keep_reader(row, 0, state)
+        }
+        PartAnswer::Refused(why) => row::keep_reader(row, why, state),
+    }
+}
+
+pub(crate) fn told_list(row: &mut [u64], read: ReadList, kind: &mut u8, count: &mut u32) -> u8
+    ensures { λ r. ⌜ (r ≡ numberList (read .answer)) × (now (kind .exit) ≡ listKind (now (kind .entry)) (read .answer)) × (now (count .exit) ≡ listCount (now (count .entry)) (read .answer)) × (now (row .exit) ≡ readerAfter (now (row .entry)) (numberList (read .answer)) (read .state)) ⌝ }
+{
+    let state = read.state;
+    let answer = read.answer;
+    match answer {
+        ListAnswer::Got(t, n) => {
+            *kind = types::type_to_u8(t);
+            *count = n;
+            row::keep_reader(row, 0, state)
+        }
+        ListAnswer::Refused(why) => row::keep_reader(row, why, state),
+    }
+}
+
+pub(crate) fn told_map(row: &mut [u64], read: ReadMap, key: &mut u8, value: &mut u8, count: &mut u32) -> u8
+    ensures { λ r. ⌜ (r ≡ numberMap (read .answer)) × (now (key .exit) ≡ mapKey (now (key .entry)) (read .answer)) × (now (value .exit) ≡ mapValue (now (value .entry)) (read .answer)) × (now (count .exit) ≡ mapCount (now (count .entry)) (read .answer)) × (now (row .exit) ≡ readerAfter (now (row .entry)) (numberMap (read .answer)) (read .state)) ⌝ }
+{
+    let state = read.state;
+    let answer = read.answer;
+    match answer {
+        MapAnswer::Got(k, v, n) => {
+            *key = types::type_to_u8(k);
+            *value = types::type_to_u8(v);
+            *count = n;
+            row::keep_reader(row, 0, state)
+        }
+        MapAnswer::Refused(why) => row::keep_reader(row, why, state),
+    }
+}
+
+pub(crate) fn told_field(row: &mut [u64], read: ReadField, kind: &mut u8, id: &mut i16) -> u8
+    ensures { λ r. ⌜ (r ≡ numberField (read .answer)) × (now (kind .exit) ≡ fieldKind (now (kind .entry)) (read .answer)) × (now (id .exit) ≡ fieldId (now (id .entry)) (read .answer)) × (now (row .exit) ≡ readerAfter (now (row .entry)) (numberField (read .answer)) (read .state)) ⌝ }
+{
+    let state = read.state;
+    let answer = read.answer;
+    match answer {
+        FieldAnswer::Stop => {
+            *kind = 0;
+            row::keep_reader(row, 0, state)
+        }
+        FieldAnswer::Field(t, found) => {
+            *kind = types::type_to_u8(t);
+            let number = found.0;
+            *id = number;
+            row::keep_reader(row, 0, state)
+        }
+        FieldAnswer::Refused(why) => row::keep_reader(row, why, state),
+    }
+}
+
+pub(crate) fn told_message(row: &mut [u64], read: ReadMessage, kind: &mut u8, sequence: &mut i32, start: &mut usize, end: &mut usize) -> u8
+    ensures { λ r. ⌜ (r ≡ numberMessage (read .answer)) × (now (kind .exit) ≡ messageKind (now (kind .entry)) (read .answer)) × (now (sequence .exit) ≡ messageSequence (now (sequence .entry)) (read .answer)) × (now (start .exit) ≡ nameStart (now (start .entry)) (read .answer)) × (now (end .exit) ≡ nameEnd (now (end .entry)) (read .answer)) × (now (row .exit) ≡ readerAfter (now (row .entry)) (numberMessage (read .answer)) (read .state)) ⌝ }
+{
+    let state = read.state;
+    let answer = read.answer;
+    match answer {
+        MessageAnswer::Got(m, i, a, e) => {
+            *kind = types::message_type_to_u8(m);
+            let number = i.0;
+            *sequence = number;
+            *start = a.0;
+            *end = e.0;
+            row::keep_reader(row, 0, state)
+        }
+        MessageAnswer::Refused(why) => row::keep_reader(row, why, state),
+    }
+}
+
+pub(crate) fn told_done(row: &mut [u64], read: ReadDone) -> u8
+    ensures { λ r. ⌜ (r ≡ numberDone (read .answer)) × (now (row .exit) ≡ readerAfter (now (row .entry)) (numberDone (read .answer)) (read .state)) ⌝ }
+{
+    let state = read.state;
+    let answer = read.answer;
+    match answer {
+        DoneAnswer::Done => {
+            row::keep_reader(row, 0, state)
+        }
+        DoneAnswer::Refused(why) => row::keep_reader(row, why, state),
+    }
+}
