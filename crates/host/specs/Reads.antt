@@ -1,7 +1,9 @@
 -- What a reader call puts where its answer is lent, by the cases of the answer: the value, or on a refusal what stood there. A part of the input is
 -- where it starts and where it ends. Assumes nothing: these are definitions.
 use Prim.Native.Nat.{ℕ}
+use mathlib.Core.Path.{_≡_}
 use mathlib.Core.Bool.{Bool}
+use mathlib.Core.List.{List}
 use lib.IntN.{ℤ}
 use Rattle.types.specs.Codes.{typeCode, messageCode}
 use Rattle.input.specs.declared.BoolAnswer.{BoolAnswer}
@@ -26,6 +28,21 @@ use Rattle.input.specs.declared.FieldAnswer.{FieldAnswer}
 use Rattle.input.specs.declared.FieldAnswer.the-variants as F
 use Rattle.input.specs.declared.MessageAnswer.{MessageAnswer}
 use Rattle.input.specs.declared.MessageAnswer.the-variants as H
+use Rattle.input.specs.declared.DoneAnswer.{DoneAnswer}
+use Rattle.input.specs.declared.ReadBool.{ReadBool}
+use Rattle.input.specs.declared.ReadI8.{ReadI8}
+use Rattle.input.specs.declared.ReadI16.{ReadI16}
+use Rattle.input.specs.declared.ReadI32.{ReadI32}
+use Rattle.input.specs.declared.ReadI64.{ReadI64}
+use Rattle.input.specs.declared.ReadDouble.{ReadDouble}
+use Rattle.input.specs.declared.ReadPart.{ReadPart}
+use Rattle.input.specs.declared.ReadList.{ReadList}
+use Rattle.input.specs.declared.ReadMap.{ReadMap}
+use Rattle.input.specs.declared.ReadField.{ReadField}
+use Rattle.input.specs.declared.ReadMessage.{ReadMessage}
+use Rattle.input.specs.declared.ReadDone.{ReadDone}
+use Rattle.input.specs.Answers.{numberBool, numberI8, numberI16, numberI32, numberI64, numberDouble, numberPart, numberList, numberMap, numberField, numberMessage, numberDone}
+use Rattle.host.specs.Row.{readerAfter}
 
 abbrev pub outBool : Bool → BoolAnswer → Bool
 outBool old (B.Got b) = b
@@ -106,3 +123,72 @@ nameStart old (H.Refused why) = old
 abbrev pub nameEnd : ℕ → MessageAnswer → ℕ
 nameEnd old (H.Got m i a e) = e .0
 nameEnd old (H.Refused why) = old
+
+-- What a call leaves with its caller, from what it read: the number, each answer in its room, the row. `w′` is behind the call what w was before it.
+
+pub record ToldBool (row row′ : List ℕ) (value value′ : Bool) (n : ℕ) (read : ReadBool) : Type 0 where
+  pub number : n ≡ numberBool (read .answer)
+  pub the-value : value′ ≡ outBool value (read .answer)
+  pub the-row : row′ ≡ readerAfter row (numberBool (read .answer)) (read .state)
+
+pub record ToldI8 (row row′ : List ℕ) (value value′ : ℤ) (n : ℕ) (read : ReadI8) : Type 0 where
+  pub number : n ≡ numberI8 (read .answer)
+  pub the-value : value′ ≡ outI8 value (read .answer)
+  pub the-row : row′ ≡ readerAfter row (numberI8 (read .answer)) (read .state)
+
+pub record ToldI16 (row row′ : List ℕ) (value value′ : ℤ) (n : ℕ) (read : ReadI16) : Type 0 where
+  pub number : n ≡ numberI16 (read .answer)
+  pub the-value : value′ ≡ outI16 value (read .answer)
+  pub the-row : row′ ≡ readerAfter row (numberI16 (read .answer)) (read .state)
+
+pub record ToldI32 (row row′ : List ℕ) (value value′ : ℤ) (n : ℕ) (read : ReadI32) : Type 0 where
+  pub number : n ≡ numberI32 (read .answer)
+  pub the-value : value′ ≡ outI32 value (read .answer)
+  pub the-row : row′ ≡ readerAfter row (numberI32 (read .answer)) (read .state)
+
+pub record ToldI64 (row row′ : List ℕ) (value value′ : ℤ) (n : ℕ) (read : ReadI64) : Type 0 where
+  pub number : n ≡ numberI64 (read .answer)
+  pub the-value : value′ ≡ outI64 value (read .answer)
+  pub the-row : row′ ≡ readerAfter row (numberI64 (read .answer)) (read .state)
+
+pub record ToldDouble (row row′ : List ℕ) (bits bits′ : ℕ) (n : ℕ) (read : ReadDouble) : Type 0 where
+  pub number : n ≡ numberDouble (read .answer)
+  pub the-bits : bits′ ≡ outDouble bits (read .answer)
+  pub the-row : row′ ≡ readerAfter row (numberDouble (read .answer)) (read .state)
+
+pub record ToldPart (row row′ : List ℕ) (start start′ : ℕ) (end end′ : ℕ) (n : ℕ) (read : ReadPart) : Type 0 where
+  pub number : n ≡ numberPart (read .answer)
+  pub the-start : start′ ≡ partStart start (read .answer)
+  pub the-end : end′ ≡ partEnd end (read .answer)
+  pub the-row : row′ ≡ readerAfter row (numberPart (read .answer)) (read .state)
+
+pub record ToldList (row row′ : List ℕ) (kind kind′ : ℕ) (count count′ : ℕ) (n : ℕ) (read : ReadList) : Type 0 where
+  pub number : n ≡ numberList (read .answer)
+  pub the-kind : kind′ ≡ listKind kind (read .answer)
+  pub the-count : count′ ≡ listCount count (read .answer)
+  pub the-row : row′ ≡ readerAfter row (numberList (read .answer)) (read .state)
+
+pub record ToldMap (row row′ : List ℕ) (key key′ : ℕ) (value value′ : ℕ) (count count′ : ℕ) (n : ℕ) (read : ReadMap) : Type 0 where
+  pub number : n ≡ numberMap (read .answer)
+  pub the-key : key′ ≡ mapKey key (read .answer)
+  pub the-value : value′ ≡ mapValue value (read .answer)
+  pub the-count : count′ ≡ mapCount count (read .answer)
+  pub the-row : row′ ≡ readerAfter row (numberMap (read .answer)) (read .state)
+
+pub record ToldField (row row′ : List ℕ) (kind kind′ : ℕ) (id id′ : ℤ) (n : ℕ) (read : ReadField) : Type 0 where
+  pub number : n ≡ numberField (read .answer)
+  pub the-kind : kind′ ≡ fieldKind kind (read .answer)
+  pub the-id : id′ ≡ fieldId id (read .answer)
+  pub the-row : row′ ≡ readerAfter row (numberField (read .answer)) (read .state)
+
+pub record ToldMessage (row row′ : List ℕ) (kind kind′ : ℕ) (sequence sequence′ : ℤ) (start start′ : ℕ) (end end′ : ℕ) (n : ℕ) (read : ReadMessage) : Type 0 where
+  pub number : n ≡ numberMessage (read .answer)
+  pub the-kind : kind′ ≡ messageKind kind (read .answer)
+  pub the-sequence : sequence′ ≡ messageSequence sequence (read .answer)
+  pub the-start : start′ ≡ nameStart start (read .answer)
+  pub the-end : end′ ≡ nameEnd end (read .answer)
+  pub the-row : row′ ≡ readerAfter row (numberMessage (read .answer)) (read .state)
+
+pub record ToldDone (row row′ : List ℕ) (n : ℕ) (read : ReadDone) : Type 0 where
+  pub number : n ≡ numberDone (read .answer)
+  pub the-row : row′ ≡ readerAfter row (numberDone (read .answer)) (read .state)

@@ -1,8 +1,5 @@
 // What a reader's call found, put where the caller lent room for it, and the next state in the row. A refusal changes neither.
-ghost use mathlib.Core.Path.{_≡_};
-ghost use Rattle.input.specs.Answers.{numberBool, numberI8, numberI16, numberI32, numberI64, numberDouble, numberPart, numberList, numberMap, numberField, numberMessage, numberDone};
-ghost use Rattle.host.specs.Row.{readerAfter};
-ghost use Rattle.host.specs.Reads.{outBool, outI8, outI16, outI32, outI64, outDouble, partStart, partEnd, listKind, listCount, mapKey, mapValue, mapCount, fieldKind, fieldId, messageKind, messageSequence, nameStart, nameEnd};
+ghost use Rattle.host.specs.Reads.{ToldBool, ToldI8, ToldI16, ToldI32, ToldI64, ToldDouble, ToldPart, ToldList, ToldMap, ToldField, ToldMessage, ToldDone};
 use crate::row;
 use input::BoolAnswer;
 use input::DoneAnswer;
@@ -30,7 +27,7 @@ use input::ReadMessage;
 use input::ReadPart;
 
 pub(crate) fn told_bool(row: &mut [u64], read: ReadBool, value: &mut bool) -> u8
-    ensures { λ r. ⌜ (r ≡ numberBool (read .answer)) × (now (value .exit) ≡ outBool (now (value .entry)) (read .answer)) × (now (row .exit) ≡ readerAfter (now (row .entry)) (numberBool (read .answer)) (read .state)) ⌝ }
+    ensures { λ r. ⌜ ToldBool (now (row .entry)) (now (row .exit)) (now (value .entry)) (now (value .exit)) r read ⌝ }
 {
     let state = read.state;
     let answer = read.answer;
@@ -44,7 +41,7 @@ pub(crate) fn told_bool(row: &mut [u64], read: ReadBool, value: &mut bool) -> u8
 }
 
 pub(crate) fn told_i8(row: &mut [u64], read: ReadI8, value: &mut i8) -> u8
-    ensures { λ r. ⌜ (r ≡ numberI8 (read .answer)) × (now (value .exit) ≡ outI8 (now (value .entry)) (read .answer)) × (now (row .exit) ≡ readerAfter (now (row .entry)) (numberI8 (read .answer)) (read .state)) ⌝ }
+    ensures { λ r. ⌜ ToldI8 (now (row .entry)) (now (row .exit)) (now (value .entry)) (now (value .exit)) r read ⌝ }
 {
     let state = read.state;
     let answer = read.answer;
@@ -58,7 +55,7 @@ pub(crate) fn told_i8(row: &mut [u64], read: ReadI8, value: &mut i8) -> u8
 }
 
 pub(crate) fn told_i16(row: &mut [u64], read: ReadI16, value: &mut i16) -> u8
-    ensures { λ r. ⌜ (r ≡ numberI16 (read .answer)) × (now (value .exit) ≡ outI16 (now (value .entry)) (read .answer)) × (now (row .exit) ≡ readerAfter (now (row .entry)) (numberI16 (read .answer)) (read .state)) ⌝ }
+    ensures { λ r. ⌜ ToldI16 (now (row .entry)) (now (row .exit)) (now (value .entry)) (now (value .exit)) r read ⌝ }
 {
     let state = read.state;
     let answer = read.answer;
@@ -72,7 +69,7 @@ pub(crate) fn told_i16(row: &mut [u64], read: ReadI16, value: &mut i16) -> u8
 }
 
 pub(crate) fn told_i32(row: &mut [u64], read: ReadI32, value: &mut i32) -> u8
-    ensures { λ r. ⌜ (r ≡ numberI32 (read .answer)) × (now (value .exit) ≡ outI32 (now (value .entry)) (read .answer)) × (now (row .exit) ≡ readerAfter (now (row .entry)) (numberI32 (read .answer)) (read .state)) ⌝ }
+    ensures { λ r. ⌜ ToldI32 (now (row .entry)) (now (row .exit)) (now (value .entry)) (now (value .exit)) r read ⌝ }
 {
     let state = read.state;
     let answer = read.answer;
@@ -86,7 +83,7 @@ pub(crate) fn told_i32(row: &mut [u64], read: ReadI32, value: &mut i32) -> u8
 }
 
 pub(crate) fn told_i64(row: &mut [u64], read: ReadI64, value: &mut i64) -> u8
-    ensures { λ r. ⌜ (r ≡ numberI64 (read .answer)) × (now (value .exit) ≡ outI64 (now (value .entry)) (read .answer)) × (now (row .exit) ≡ readerAfter (now (row .entry)) (numberI64 (read .answer)) (read .state)) ⌝ }
+    ensures { λ r. ⌜ ToldI64 (now (row .entry)) (now (row .exit)) (now (value .entry)) (now (value .exit)) r read ⌝ }
 {
     let state = read.state;
     let answer = read.answer;
@@ -100,7 +97,7 @@ pub(crate) fn told_i64(row: &mut [u64], read: ReadI64, value: &mut i64) -> u8
 }
 
 pub(crate) fn told_double(row: &mut [u64], read: ReadDouble, bits: &mut u64) -> u8
-    ensures { λ r. ⌜ (r ≡ numberDouble (read .answer)) × (now (bits .exit) ≡ outDouble (now (bits .entry)) (read .answer)) × (now (row .exit) ≡ readerAfter (now (row .entry)) (numberDouble (read .answer)) (read .state)) ⌝ }
+    ensures { λ r. ⌜ ToldDouble (now (row .entry)) (now (row .exit)) (now (bits .entry)) (now (bits .exit)) r read ⌝ }
 {
     let state = read.state;
     let answer = read.answer;
@@ -114,7 +111,7 @@ pub(crate) fn told_double(row: &mut [u64], read: ReadDouble, bits: &mut u64) -> 
 }
 
 pub(crate) fn told_part(row: &mut [u64], read: ReadPart, start: &mut usize, end: &mut usize) -> u8
-    ensures { λ r. ⌜ (r ≡ numberPart (read .answer)) × (now (start .exit) ≡ partStart (now (start .entry)) (read .answer)) × (now (end .exit) ≡ partEnd (now (end .entry)) (read .answer)) × (now (row .exit) ≡ readerAfter (now (row .entry)) (numberPart (read .answer)) (read .state)) ⌝ }
+    ensures { λ r. ⌜ ToldPart (now (row .entry)) (now (row .exit)) (now (start .entry)) (now (start .exit)) (now (end .entry)) (now (end .exit)) r read ⌝ }
 {
     let state = read.state;
     let answer = read.answer;
@@ -129,7 +126,7 @@ pub(crate) fn told_part(row: &mut [u64], read: ReadPart, start: &mut usize, end:
 }
 
 pub(crate) fn told_list(row: &mut [u64], read: ReadList, kind: &mut u8, count: &mut u32) -> u8
-    ensures { λ r. ⌜ (r ≡ numberList (read .answer)) × (now (kind .exit) ≡ listKind (now (kind .entry)) (read .answer)) × (now (count .exit) ≡ listCount (now (count .entry)) (read .answer)) × (now (row .exit) ≡ readerAfter (now (row .entry)) (numberList (read .answer)) (read .state)) ⌝ }
+    ensures { λ r. ⌜ ToldList (now (row .entry)) (now (row .exit)) (now (kind .entry)) (now (kind .exit)) (now (count .entry)) (now (count .exit)) r read ⌝ }
 {
     let state = read.state;
     let answer = read.answer;
@@ -144,7 +141,7 @@ pub(crate) fn told_list(row: &mut [u64], read: ReadList, kind: &mut u8, count: &
 }
 
 pub(crate) fn told_map(row: &mut [u64], read: ReadMap, key: &mut u8, value: &mut u8, count: &mut u32) -> u8
-    ensures { λ r. ⌜ (r ≡ numberMap (read .answer)) × (now (key .exit) ≡ mapKey (now (key .entry)) (read .answer)) × (now (value .exit) ≡ mapValue (now (value .entry)) (read .answer)) × (now (count .exit) ≡ mapCount (now (count .entry)) (read .answer)) × (now (row .exit) ≡ readerAfter (now (row .entry)) (numberMap (read .answer)) (read .state)) ⌝ }
+    ensures { λ r. ⌜ ToldMap (now (row .entry)) (now (row .exit)) (now (key .entry)) (now (key .exit)) (now (value .entry)) (now (value .exit)) (now (count .entry)) (now (count .exit)) r read ⌝ }
 {
     let state = read.state;
     let answer = read.answer;
@@ -160,7 +157,7 @@ pub(crate) fn told_map(row: &mut [u64], read: ReadMap, key: &mut u8, value: &mut
 }
 
 pub(crate) fn told_field(row: &mut [u64], read: ReadField, kind: &mut u8, id: &mut i16) -> u8
-    ensures { λ r. ⌜ (r ≡ numberField (read .answer)) × (now (kind .exit) ≡ fieldKind (now (kind .entry)) (read .answer)) × (now (id .exit) ≡ fieldId (now (id .entry)) (read .answer)) × (now (row .exit) ≡ readerAfter (now (row .entry)) (numberField (read .answer)) (read .state)) ⌝ }
+    ensures { λ r. ⌜ ToldField (now (row .entry)) (now (row .exit)) (now (kind .entry)) (now (kind .exit)) (now (id .entry)) (now (id .exit)) r read ⌝ }
 {
     let state = read.state;
     let answer = read.answer;
@@ -180,7 +177,7 @@ pub(crate) fn told_field(row: &mut [u64], read: ReadField, kind: &mut u8, id: &m
 }
 
 pub(crate) fn told_message(row: &mut [u64], read: ReadMessage, kind: &mut u8, sequence: &mut i32, start: &mut usize, end: &mut usize) -> u8
-    ensures { λ r. ⌜ (r ≡ numberMessage (read .answer)) × (now (kind .exit) ≡ messageKind (now (kind .entry)) (read .answer)) × (now (sequence .exit) ≡ messageSequence (now (sequence .entry)) (read .answer)) × (now (start .exit) ≡ nameStart (now (start .entry)) (read .answer)) × (now (end .exit) ≡ nameEnd (now (end .entry)) (read .answer)) × (now (row .exit) ≡ readerAfter (now (row .entry)) (numberMessage (read .answer)) (read .state)) ⌝ }
+    ensures { λ r. ⌜ ToldMessage (now (row .entry)) (now (row .exit)) (now (kind .entry)) (now (kind .exit)) (now (sequence .entry)) (now (sequence .exit)) (now (start .entry)) (now (start .exit)) (now (end .entry)) (now (end .exit)) r read ⌝ }
 {
     let state = read.state;
     let answer = read.answer;
@@ -198,7 +195,7 @@ pub(crate) fn told_message(row: &mut [u64], read: ReadMessage, kind: &mut u8, se
 }
 
 pub(crate) fn told_done(row: &mut [u64], read: ReadDone) -> u8
-    ensures { λ r. ⌜ (r ≡ numberDone (read .answer)) × (now (row .exit) ≡ readerAfter (now (row .entry)) (numberDone (read .answer)) (read .state)) ⌝ }
+    ensures { λ r. ⌜ ToldDone (now (row .entry)) (now (row .exit)) r read ⌝ }
 {
     let state = read.state;
     let answer = read.answer;

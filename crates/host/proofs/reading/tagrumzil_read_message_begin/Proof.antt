@@ -1,4 +1,5 @@
 use borrow.Author.Needs.{needs}
+use Rattle.host.proofs.Found.{through}
 use Rattle.host.proofs.reading.tagrumzil_read_message_begin.Statement.{statement}
 use Rattle.host.proofs.reading.tagrumzil_read_message_begin.Tie as tie
 
@@ -10,4 +11,4 @@ tagrumzil-read-message-begin-spec =
     (λ c κs. search needs)
     (λ c κs. search needs)
     (λ c. search needs)
-    (λ c. (cc, (cc, (cc, (cc, (cc, cc)))))))
+    (λ c. search through))
