@@ -2,3 +2,5 @@
 mod reading;
 mod row;
 mod told;
+mod typed;
+mod writing;
