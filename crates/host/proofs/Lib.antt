@@ -1,3 +1,5 @@
 pub mod Cases
 pub mod Found
 pub mod Wrote
+pub mod Ids
+pub mod Bared

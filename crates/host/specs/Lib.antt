@@ -1,3 +1,5 @@
 pub mod Row
 pub mod Reads
 pub mod Writes
+pub mod Structs
+pub mod Bare

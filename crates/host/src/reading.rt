@@ -7,7 +7,14 @@ use crate::told;
 
 // A message's header: its type, its sequence number, and where its name stands in the input. The last id is 0 from then on.
 #[no_mangle]
-pub extern "C" fn tagrumzil_read_message_begin(s: &[u8], row: &mut [u64], kind: &mut u8, sequence: &mut i32, start: &mut usize, end: &mut usize) -> u8
+pub extern "C" fn tagrumzil_read_message_begin(
+    s: &[u8],
+    row: &mut [u64],
+    kind: &mut u8,
+    sequence: &mut i32,
+    start: &mut usize,
+    end: &mut usize,
+) -> u8
     ensures { λ r. ⌜ ToldMessage (now (row .entry)) (now (row .exit)) (now (kind .entry)) (now (kind .exit)) (now (sequence .entry)) (now (sequence .exit)) (now (start .entry)) (now (start .exit)) (now (end .entry)) (now (end .exit)) r (readMessage (now (s .entry)) (readerOf (now (row .entry)))) ⌝ }
 {
     let read = row::reader_of(row).read_message_begin(s);
@@ -16,7 +23,12 @@ pub extern "C" fn tagrumzil_read_message_begin(s: &[u8], row: &mut [u64], kind: 
 
 // A field's header. Its type is 0 at the struct's end, and `id` is then left as it is. A bool field's value is in its header: the bool call hands it out.
 #[no_mangle]
-pub extern "C" fn tagrumzil_read_field_begin(s: &[u8], row: &mut [u64], kind: &mut u8, id: &mut i16) -> u8
+pub extern "C" fn tagrumzil_read_field_begin(
+    s: &[u8],
+    row: &mut [u64],
+    kind: &mut u8,
+    id: &mut i16,
+) -> u8
     ensures { λ r. ⌜ ToldField (now (row .entry)) (now (row .exit)) (now (kind .entry)) (now (kind .exit)) (now (id .entry)) (now (id .exit)) r (readField (now (s .entry)) (readerOf (now (row .entry)))) ⌝ }
 {
     let read = row::reader_of(row).read_field_begin(s);
@@ -75,7 +87,12 @@ pub extern "C" fn tagrumzil_read_double(s: &[u8], row: &mut [u64], bits: &mut u6
 
 // A uuid: where its 16 bytes stand in the input.
 #[no_mangle]
-pub extern "C" fn tagrumzil_read_uuid(s: &[u8], row: &mut [u64], start: &mut usize, end: &mut usize) -> u8
+pub extern "C" fn tagrumzil_read_uuid(
+    s: &[u8],
+    row: &mut [u64],
+    start: &mut usize,
+    end: &mut usize,
+) -> u8
     ensures { λ r. ⌜ ToldPart (now (row .entry)) (now (row .exit)) (now (start .entry)) (now (start .exit)) (now (end .entry)) (now (end .exit)) r (readUuid (now (s .entry)) (readerOf (now (row .entry)))) ⌝ }
 {
     let read = row::reader_of(row).read_uuid(s);
@@ -84,7 +101,12 @@ pub extern "C" fn tagrumzil_read_uuid(s: &[u8], row: &mut [u64], start: &mut usi
 
 // A binary: where its bytes stand in the input.
 #[no_mangle]
-pub extern "C" fn tagrumzil_read_bytes(s: &[u8], row: &mut [u64], start: &mut usize, end: &mut usize) -> u8
+pub extern "C" fn tagrumzil_read_bytes(
+    s: &[u8],
+    row: &mut [u64],
+    start: &mut usize,
+    end: &mut usize,
+) -> u8
     ensures { λ r. ⌜ ToldPart (now (row .entry)) (now (row .exit)) (now (start .entry)) (now (start .exit)) (now (end .entry)) (now (end .exit)) r (readBytes (now (s .entry)) (readerOf (now (row .entry)))) ⌝ }
 {
     let read = row::reader_of(row).read_bytes(s);
@@ -93,7 +115,12 @@ pub extern "C" fn tagrumzil_read_bytes(s: &[u8], row: &mut [u64], start: &mut us
 
 // A string: the same, and its bytes are UTF-8.
 #[no_mangle]
-pub extern "C" fn tagrumzil_read_string(s: &[u8], row: &mut [u64], start: &mut usize, end: &mut usize) -> u8
+pub extern "C" fn tagrumzil_read_string(
+    s: &[u8],
+    row: &mut [u64],
+    start: &mut usize,
+    end: &mut usize,
+) -> u8
     ensures { λ r. ⌜ ToldPart (now (row .entry)) (now (row .exit)) (now (start .entry)) (now (start .exit)) (now (end .entry)) (now (end .exit)) r (readString (now (s .entry)) (readerOf (now (row .entry)))) ⌝ }
 {
     let read = row::reader_of(row).read_string(s);
@@ -102,7 +129,12 @@ pub extern "C" fn tagrumzil_read_string(s: &[u8], row: &mut [u64], start: &mut u
 
 // A list's header: its elements' type and how many there are.
 #[no_mangle]
-pub extern "C" fn tagrumzil_read_list_begin(s: &[u8], row: &mut [u64], kind: &mut u8, count: &mut u32) -> u8
+pub extern "C" fn tagrumzil_read_list_begin(
+    s: &[u8],
+    row: &mut [u64],
+    kind: &mut u8,
+    count: &mut u32,
+) -> u8
     ensures { λ r. ⌜ ToldList (now (row .entry)) (now (row .exit)) (now (kind .entry)) (now (kind .exit)) (now (count .entry)) (now (count .exit)) r (readList (now (s .entry)) (readerOf (now (row .entry)))) ⌝ }
 {
     let read = row::reader_of(row).read_list_begin(s);
@@ -110,7 +142,12 @@ pub extern "C" fn tagrumzil_read_list_begin(s: &[u8], row: &mut [u64], kind: &mu
 }
 
 #[no_mangle]
-pub extern "C" fn tagrumzil_read_set_begin(s: &[u8], row: &mut [u64], kind: &mut u8, count: &mut u32) -> u8
+pub extern "C" fn tagrumzil_read_set_begin(
+    s: &[u8],
+    row: &mut [u64],
+    kind: &mut u8,
+    count: &mut u32,
+) -> u8
     ensures { λ r. ⌜ ToldList (now (row .entry)) (now (row .exit)) (now (kind .entry)) (now (kind .exit)) (now (count .entry)) (now (count .exit)) r (readSet (now (s .entry)) (readerOf (now (row .entry)))) ⌝ }
 {
     let read = row::reader_of(row).read_set_begin(s);
@@ -119,7 +156,13 @@ pub extern "C" fn tagrumzil_read_set_begin(s: &[u8], row: &mut [u64], kind: &mut
 
 // A map's header: the types of its keys and values, which are 0 in an empty one, and how many there are.
 #[no_mangle]
-pub extern "C" fn tagrumzil_read_map_begin(s: &[u8], row: &mut [u64], key: &mut u8, value: &mut u8, count: &mut u32) -> u8
+pub extern "C" fn tagrumzil_read_map_begin(
+    s: &[u8],
+    row: &mut [u64],
+    key: &mut u8,
+    value: &mut u8,
+    count: &mut u32,
+) -> u8
     ensures { λ r. ⌜ ToldMap (now (row .entry)) (now (row .exit)) (now (key .entry)) (now (key .exit)) (now (value .entry)) (now (value .exit)) (now (count .entry)) (now (count .exit)) r (readMap (now (s .entry)) (readerOf (now (row .entry)))) ⌝ }
 {
     let read = row::reader_of(row).read_map_begin(s);

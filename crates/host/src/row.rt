@@ -69,7 +69,7 @@ fn field_no(awaited: AwaitedField) -> u64
     }
 }
 
-fn no_limits() -> TConfiguration
+pub(crate) fn no_limits() -> TConfiguration
     ensures { λ r. ⌜ r ≡ noLimits ⌝ }
 {
     TConfiguration {

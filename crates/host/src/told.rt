@@ -5,10 +5,10 @@ use input::BoolAnswer;
 use input::DoneAnswer;
 use input::DoubleAnswer;
 use input::FieldAnswer;
+use input::I8Answer;
 use input::I16Answer;
 use input::I32Answer;
 use input::I64Answer;
-use input::I8Answer;
 use input::ListAnswer;
 use input::MapAnswer;
 use input::MessageAnswer;
@@ -17,10 +17,10 @@ use input::ReadBool;
 use input::ReadDone;
 use input::ReadDouble;
 use input::ReadField;
+use input::ReadI8;
 use input::ReadI16;
 use input::ReadI32;
 use input::ReadI64;
-use input::ReadI8;
 use input::ReadList;
 use input::ReadMap;
 use input::ReadMessage;
@@ -140,7 +140,13 @@ pub(crate) fn told_list(row: &mut [u64], read: ReadList, kind: &mut u8, count: &
     }
 }
 
-pub(crate) fn told_map(row: &mut [u64], read: ReadMap, key: &mut u8, value: &mut u8, count: &mut u32) -> u8
+pub(crate) fn told_map(
+    row: &mut [u64],
+    read: ReadMap,
+    key: &mut u8,
+    value: &mut u8,
+    count: &mut u32,
+) -> u8
     ensures { λ r. ⌜ ToldMap (now (row .entry)) (now (row .exit)) (now (key .entry)) (now (key .exit)) (now (value .entry)) (now (value .exit)) (now (count .entry)) (now (count .exit)) r read ⌝ }
 {
     let state = read.state;
@@ -176,7 +182,14 @@ pub(crate) fn told_field(row: &mut [u64], read: ReadField, kind: &mut u8, id: &m
     }
 }
 
-pub(crate) fn told_message(row: &mut [u64], read: ReadMessage, kind: &mut u8, sequence: &mut i32, start: &mut usize, end: &mut usize) -> u8
+pub(crate) fn told_message(
+    row: &mut [u64],
+    read: ReadMessage,
+    kind: &mut u8,
+    sequence: &mut i32,
+    start: &mut usize,
+    end: &mut usize,
+) -> u8
     ensures { λ r. ⌜ ToldMessage (now (row .entry)) (now (row .exit)) (now (kind .entry)) (now (kind .exit)) (now (sequence .entry)) (now (sequence .exit)) (now (start .entry)) (now (start .exit)) (now (end .entry)) (now (end .exit)) r read ⌝ }
 {
     let state = read.state;
@@ -200,9 +213,7 @@ pub(crate) fn told_done(row: &mut [u64], read: ReadDone) -> u8
     let state = read.state;
     let answer = read.answer;
     match answer {
-        DoneAnswer::Done => {
-            row::keep_reader(row, 0, state)
-        }
+        DoneAnswer::Done => { row::keep_reader(row, 0, state) }
         DoneAnswer::Refused(why) => row::keep_reader(row, why, state),
     }
 }

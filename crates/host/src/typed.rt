@@ -64,7 +64,12 @@ fn refused(state: TCompactOutputProtocol, buf: &[u8], wrong: u8) -> Written
     }
 }
 
-pub(crate) fn field_begin(state: TCompactOutputProtocol, buf: &mut [u8], kind: u8, id: i16) -> Written
+pub(crate) fn field_begin(
+    state: TCompactOutputProtocol,
+    buf: &mut [u8],
+    kind: u8,
+    id: i16,
+) -> Written
     ensures { λ r. ⌜ (r ≡ writes (now (buf .entry)) state (fieldBy state kind (record { 0 = id }))) × (now (buf .exit) ≡ leaves (now (buf .entry)) state (fieldBy state kind (record { 0 = id }))) ⌝ }
 {
     match types::u8_to_type(kind) {
@@ -73,7 +78,12 @@ pub(crate) fn field_begin(state: TCompactOutputProtocol, buf: &mut [u8], kind: u
     }
 }
 
-pub(crate) fn list_begin(state: TCompactOutputProtocol, buf: &mut [u8], kind: u8, count: i32) -> Written
+pub(crate) fn list_begin(
+    state: TCompactOutputProtocol,
+    buf: &mut [u8],
+    kind: u8,
+    count: i32,
+) -> Written
     ensures { λ r. ⌜ (r ≡ writes (now (buf .entry)) state (itemsBy state kind count)) × (now (buf .exit) ≡ leaves (now (buf .entry)) state (itemsBy state kind count)) ⌝ }
 {
     match types::u8_to_type(kind) {
@@ -82,7 +92,13 @@ pub(crate) fn list_begin(state: TCompactOutputProtocol, buf: &mut [u8], kind: u8
     }
 }
 
-fn pairs_begin(state: TCompactOutputProtocol, buf: &mut [u8], k: TType, value: u8, count: i32) -> Written
+fn pairs_begin(
+    state: TCompactOutputProtocol,
+    buf: &mut [u8],
+    k: TType,
+    value: u8,
+    count: i32,
+) -> Written
     ensures { λ r. ⌜ (r ≡ writes (now (buf .entry)) state (pairsOfTypes state count (R.Got k) (typeByNumber value))) × (now (buf .exit) ≡ leaves (now (buf .entry)) state (pairsOfTypes state count (R.Got k) (typeByNumber value))) ⌝ }
 {
     match types::u8_to_type(value) {
@@ -92,7 +108,13 @@ fn pairs_begin(state: TCompactOutputProtocol, buf: &mut [u8], k: TType, value: u
 }
 
 // An empty map has no types, so the numbers given for them have no say.
-pub(crate) fn map_begin(state: TCompactOutputProtocol, buf: &mut [u8], key: u8, value: u8, count: i32) -> Written
+pub(crate) fn map_begin(
+    state: TCompactOutputProtocol,
+    buf: &mut [u8],
+    key: u8,
+    value: u8,
+    count: i32,
+) -> Written
     ensures { λ r. ⌜ (r ≡ writes (now (buf .entry)) state (pairsBy state key value count)) × (now (buf .exit) ≡ leaves (now (buf .entry)) state (pairsBy state key value count)) ⌝ }
 {
     if count == 0 {

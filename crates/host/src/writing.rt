@@ -21,7 +21,13 @@ fn kept(row: &mut [u64], wrote: Written) -> u8
 
 // A message's header. A type out of 1 to 4 is BAD MESSAGE TYPE.
 #[no_mangle]
-pub extern "C" fn tagrumzil_write_message_begin(buf: &mut [u8], row: &mut [u64], kind: u8, sequence: i32, name: &[u8]) -> u8
+pub extern "C" fn tagrumzil_write_message_begin(
+    buf: &mut [u8],
+    row: &mut [u64],
+    kind: u8,
+    sequence: i32,
+    name: &[u8],
+) -> u8
     ensures { λ r. ⌜ Made (now (row .entry)) (now (row .exit)) (now (buf .entry)) (now (buf .exit)) r (writerOf (now (row .entry))) (messageBy (writerOf (now (row .entry))) kind (record { 0 = sequence }) (now (name .entry))) ⌝ }
 {
     let state = row::writer_of(row);
@@ -31,7 +37,12 @@ pub extern "C" fn tagrumzil_write_message_begin(buf: &mut [u8], row: &mut [u64],
 
 // A field's header. A bool's waits for the bool call, which writes it with the value in it.
 #[no_mangle]
-pub extern "C" fn tagrumzil_write_field_begin(buf: &mut [u8], row: &mut [u64], kind: u8, id: i16) -> u8
+pub extern "C" fn tagrumzil_write_field_begin(
+    buf: &mut [u8],
+    row: &mut [u64],
+    kind: u8,
+    id: i16,
+) -> u8
     ensures { λ r. ⌜ Made (now (row .entry)) (now (row .exit)) (now (buf .entry)) (now (buf .exit)) r (writerOf (now (row .entry))) (fieldBy (writerOf (now (row .entry))) kind (record { 0 = id })) ⌝ }
 {
     let state = row::writer_of(row);
@@ -134,7 +145,12 @@ pub extern "C" fn tagrumzil_write_string(buf: &mut [u8], row: &mut [u64], text: 
 }
 
 #[no_mangle]
-pub extern "C" fn tagrumzil_write_list_begin(buf: &mut [u8], row: &mut [u64], kind: u8, count: i32) -> u8
+pub extern "C" fn tagrumzil_write_list_begin(
+    buf: &mut [u8],
+    row: &mut [u64],
+    kind: u8,
+    count: i32,
+) -> u8
     ensures { λ r. ⌜ Made (now (row .entry)) (now (row .exit)) (now (buf .entry)) (now (buf .exit)) r (writerOf (now (row .entry))) (itemsBy (writerOf (now (row .entry))) kind count) ⌝ }
 {
     let state = row::writer_of(row);
@@ -144,7 +160,12 @@ pub extern "C" fn tagrumzil_write_list_begin(buf: &mut [u8], row: &mut [u64], ki
 
 // A set's header is a list's.
 #[no_mangle]
-pub extern "C" fn tagrumzil_write_set_begin(buf: &mut [u8], row: &mut [u64], kind: u8, count: i32) -> u8
+pub extern "C" fn tagrumzil_write_set_begin(
+    buf: &mut [u8],
+    row: &mut [u64],
+    kind: u8,
+    count: i32,
+) -> u8
     ensures { λ r. ⌜ Made (now (row .entry)) (now (row .exit)) (now (buf .entry)) (now (buf .exit)) r (writerOf (now (row .entry))) (itemsBy (writerOf (now (row .entry))) kind count) ⌝ }
 {
     let state = row::writer_of(row);
@@ -153,7 +174,13 @@ pub extern "C" fn tagrumzil_write_set_begin(buf: &mut [u8], row: &mut [u64], kin
 }
 
 #[no_mangle]
-pub extern "C" fn tagrumzil_write_map_begin(buf: &mut [u8], row: &mut [u64], key: u8, value: u8, count: i32) -> u8
+pub extern "C" fn tagrumzil_write_map_begin(
+    buf: &mut [u8],
+    row: &mut [u64],
+    key: u8,
+    value: u8,
+    count: i32,
+) -> u8
     ensures { λ r. ⌜ Made (now (row .entry)) (now (row .exit)) (now (buf .entry)) (now (buf .exit)) r (writerOf (now (row .entry))) (pairsBy (writerOf (now (row .entry))) key value count) ⌝ }
 {
     let state = row::writer_of(row);
