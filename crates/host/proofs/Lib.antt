@@ -1,5 +1,4 @@
-pub mod Cases
-pub mod Found
-pub mod Wrote
-pub mod Ids
+pub mod Through
+pub mod Making
+pub mod Nesting
 pub mod Bared

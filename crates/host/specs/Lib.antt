@@ -1,5 +1,1 @@
-pub mod Row
-pub mod Reads
-pub mod Writes
-pub mod Structs
 pub mod Bare

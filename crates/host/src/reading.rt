@@ -1,9 +1,9 @@
 // The reader's calls. The row holds the state before the call, and from then on the next one; the number is 0, or that of a refusal.
 ghost use Rattle.input.specs.Calls.{readMessage, readField, readBool, readI8, readI16, readI32, readI64, readDouble, readUuid, readBytes, readString, readList, readSet, readMap};
-ghost use Rattle.host.specs.Row.{readerOf};
-ghost use Rattle.host.specs.Reads.{ToldBool, ToldI8, ToldI16, ToldI32, ToldI64, ToldDouble, ToldPart, ToldList, ToldMap, ToldField, ToldMessage};
-use crate::row;
-use crate::told;
+ghost use Rattle.rows.specs.Row.{readerOf};
+ghost use Rattle.rows.specs.Reads.{ToldBool, ToldI8, ToldI16, ToldI32, ToldI64, ToldDouble, ToldPart, ToldList, ToldMap, ToldField, ToldMessage};
+use rows::row;
+use rows::told;
 
 // A message's header: its type, its sequence number, and where its name stands in the input. The last id is 0 from then on.
 #[no_mangle]

@@ -1,23 +1,11 @@
 // The writer's calls. The row holds the state before the call, and from then on the next one; the number is 0, or that of a refusal, which leaves row and
 // buffer as they are.
 ghost use Rattle.output.specs.Calls.{stopCall, boolCall, i8Call, intCall, doubleCall, uuidCall, bytesCall, stringCall};
-ghost use Rattle.host.specs.Row.{writerOf};
-ghost use Rattle.host.specs.Writes.{Kept, Made, fieldBy, itemsBy, pairsBy, messageBy};
-use crate::row;
-use crate::typed;
-use output::WriteAnswer;
-use output::Written;
-
-fn kept(row: &mut [u64], wrote: Written) -> u8
-    ensures { λ r. ⌜ Kept (now (row .entry)) (now (row .exit)) r wrote ⌝ }
-{
-    let state = wrote.state;
-    let answer = wrote.answer;
-    match answer {
-        WriteAnswer::Written => row::keep_writer(row, 0, state),
-        WriteAnswer::Refused(why) => row::keep_writer(row, why, state),
-    }
-}
+ghost use Rattle.rows.specs.Row.{writerOf};
+ghost use Rattle.rows.specs.Writes.{Made, fieldBy, itemsBy, pairsBy, messageBy};
+use rows::row;
+use rows::told;
+use rows::typed;
 
 // A message's header. A type out of 1 to 4 is BAD MESSAGE TYPE.
 #[no_mangle]
@@ -32,7 +20,7 @@ pub extern "C" fn tagrumzil_write_message_begin(
 {
     let state = row::writer_of(row);
     let wrote = typed::message_begin(state, buf, kind, sequence, name);
-    kept(row, wrote)
+    told::kept(row, wrote)
 }
 
 // A field's header. A bool's waits for the bool call, which writes it with the value in it.
@@ -47,7 +35,7 @@ pub extern "C" fn tagrumzil_write_field_begin(
 {
     let state = row::writer_of(row);
     let wrote = typed::field_begin(state, buf, kind, id);
-    kept(row, wrote)
+    told::kept(row, wrote)
 }
 
 // The byte that ends a struct's fields.
@@ -57,7 +45,7 @@ pub extern "C" fn tagrumzil_write_field_stop(buf: &mut [u8], row: &mut [u64]) ->
 {
     let state = row::writer_of(row);
     let wrote = state.write_field_stop(buf);
-    kept(row, wrote)
+    told::kept(row, wrote)
 }
 
 // The header of the bool field that waits, or else an element.
@@ -67,7 +55,7 @@ pub extern "C" fn tagrumzil_write_bool(buf: &mut [u8], row: &mut [u64], truth: b
 {
     let state = row::writer_of(row);
     let wrote = state.write_bool(buf, truth);
-    kept(row, wrote)
+    told::kept(row, wrote)
 }
 
 #[no_mangle]
@@ -76,7 +64,7 @@ pub extern "C" fn tagrumzil_write_i8(buf: &mut [u8], row: &mut [u64], n: i8) -> 
 {
     let state = row::writer_of(row);
     let wrote = state.write_i8(buf, n);
-    kept(row, wrote)
+    told::kept(row, wrote)
 }
 
 #[no_mangle]
@@ -85,7 +73,7 @@ pub extern "C" fn tagrumzil_write_i16(buf: &mut [u8], row: &mut [u64], n: i16) -
 {
     let state = row::writer_of(row);
     let wrote = state.write_i16(buf, n);
-    kept(row, wrote)
+    told::kept(row, wrote)
 }
 
 #[no_mangle]
@@ -94,7 +82,7 @@ pub extern "C" fn tagrumzil_write_i32(buf: &mut [u8], row: &mut [u64], n: i32) -
 {
     let state = row::writer_of(row);
     let wrote = state.write_i32(buf, n);
-    kept(row, wrote)
+    told::kept(row, wrote)
 }
 
 #[no_mangle]
@@ -103,7 +91,7 @@ pub extern "C" fn tagrumzil_write_i64(buf: &mut [u8], row: &mut [u64], n: i64) -
 {
     let state = row::writer_of(row);
     let wrote = state.write_i64(buf, n);
-    kept(row, wrote)
+    told::kept(row, wrote)
 }
 
 // A double, given as its 64 bits.
@@ -113,7 +101,7 @@ pub extern "C" fn tagrumzil_write_double(buf: &mut [u8], row: &mut [u64], bits: 
 {
     let state = row::writer_of(row);
     let wrote = state.write_double(buf, bits);
-    kept(row, wrote)
+    told::kept(row, wrote)
 }
 
 #[no_mangle]
@@ -122,7 +110,7 @@ pub extern "C" fn tagrumzil_write_uuid(buf: &mut [u8], row: &mut [u64], uuid: &[
 {
     let state = row::writer_of(row);
     let wrote = state.write_uuid(buf, uuid);
-    kept(row, wrote)
+    told::kept(row, wrote)
 }
 
 #[no_mangle]
@@ -131,7 +119,7 @@ pub extern "C" fn tagrumzil_write_bytes(buf: &mut [u8], row: &mut [u64], blob: &
 {
     let state = row::writer_of(row);
     let wrote = state.write_bytes(buf, blob);
-    kept(row, wrote)
+    told::kept(row, wrote)
 }
 
 // A string: bytes that are not UTF-8 are refused.
@@ -141,7 +129,7 @@ pub extern "C" fn tagrumzil_write_string(buf: &mut [u8], row: &mut [u64], text: 
 {
     let state = row::writer_of(row);
     let wrote = state.write_string(buf, text);
-    kept(row, wrote)
+    told::kept(row, wrote)
 }
 
 #[no_mangle]
@@ -155,7 +143,7 @@ pub extern "C" fn tagrumzil_write_list_begin(
 {
     let state = row::writer_of(row);
     let wrote = typed::list_begin(state, buf, kind, count);
-    kept(row, wrote)
+    told::kept(row, wrote)
 }
 
 // A set's header is a list's.
@@ -170,7 +158,7 @@ pub extern "C" fn tagrumzil_write_set_begin(
 {
     let state = row::writer_of(row);
     let wrote = typed::list_begin(state, buf, kind, count);
-    kept(row, wrote)
+    told::kept(row, wrote)
 }
 
 #[no_mangle]
@@ -185,5 +173,5 @@ pub extern "C" fn tagrumzil_write_map_begin(
 {
     let state = row::writer_of(row);
     let wrote = typed::map_begin(state, buf, key, value, count);
-    kept(row, wrote)
+    told::kept(row, wrote)
 }

@@ -1,5 +1,5 @@
 use borrow.Author.Needs.{needs}
-use Rattle.host.proofs.Cases.{ids}
+use Rattle.rows.proofs.Cases.{ids}
 use Rattle.host.proofs.bare.tagrumzil_i64_to_zigzag.Statement.{statement}
 use Rattle.host.proofs.bare.tagrumzil_i64_to_zigzag.Tie as tie
 

@@ -1,5 +1,5 @@
 use borrow.Author.Needs.{needs}
-use Rattle.host.proofs.Found.{through}
+use Rattle.host.proofs.Through.{through}
 use Rattle.host.proofs.reading.tagrumzil_read_i16.Statement.{statement}
 use Rattle.host.proofs.reading.tagrumzil_read_i16.Tie as tie
 

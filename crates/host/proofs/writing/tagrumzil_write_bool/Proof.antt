@@ -1,5 +1,5 @@
 use borrow.Author.Needs.{needs}
-use Rattle.host.proofs.Wrote.{making}
+use Rattle.host.proofs.Making.{making}
 use Rattle.host.proofs.writing.tagrumzil_write_bool.Statement.{statement}
 use Rattle.host.proofs.writing.tagrumzil_write_bool.Tie as tie
 
