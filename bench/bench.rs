@@ -1,0 +1,138 @@
+//! The same inputs through the crate thrift 0.25.0 and through the port's Rust crate, in one process. Prints the best of many passes for each, and the ratio.
+use std::hint::black_box;
+use std::time::Instant;
+use tagrumzil as port;
+use thrift::protocol::*;
+
+const POINTS: i32 = 2000;
+
+fn struct_of_i32() -> Vec<u8> {
+    let mut v: Vec<u8> = (0..1000).flat_map(|i| [0x15, (i % 100) as u8]).collect();
+    v.push(0);
+    v
+}
+
+fn list_of_i32() -> Vec<u8> {
+    let mut v = vec![0xF5, 0xA0, 0x8D, 0x06];
+    v.extend((0..100_000).map(|i| (i % 100) as u8));
+    v
+}
+
+fn value(i: i32, k: i32) -> f64 {
+    f64::from(i) * 0.25 + f64::from(k)
+}
+
+fn port_writes(buffer: &mut [u8]) -> Result<usize, port::Refusal> {
+    let mut o = port::TCompactOutputProtocol::new(buffer);
+    o.write_struct_begin()?;
+    o.write_field_begin(port::TType::List, 1)?;
+    o.write_list_begin(port::TType::Struct, POINTS)?;
+    for i in 0..POINTS {
+        o.write_struct_begin()?;
+        for k in 1..4 {
+            o.write_field_begin(port::TType::Double, k as i16)?;
+            o.write_double(value(i, k))?;
+        }
+        o.write_field_stop()?;
+        o.write_struct_end()?;
+    }
+    o.write_field_stop()?;
+    o.write_struct_end()?;
+    Ok(o.place())
+}
+
+fn field(field_type: TType, id: i16) -> TFieldIdentifier {
+    TFieldIdentifier { name: None, field_type, id: Some(id) }
+}
+
+fn crate_writes(buffer: &mut Vec<u8>) -> thrift::Result<()> {
+    buffer.clear();
+    let mut o = TCompactOutputProtocol::new(buffer);
+    o.write_struct_begin(&TStructIdentifier::new(String::new()))?;
+    o.write_field_begin(&field(TType::List, 1))?;
+    o.write_list_begin(&TListIdentifier::new(TType::Struct, POINTS))?;
+    for i in 0..POINTS {
+        o.write_struct_begin(&TStructIdentifier::new(String::new()))?;
+        for k in 1..4 {
+            o.write_field_begin(&field(TType::Double, k as i16))?;
+            o.write_double(value(i, k))?;
+            o.write_field_end()?;
+        }
+        o.write_field_stop()?;
+        o.write_struct_end()?;
+    }
+    o.write_list_end()?;
+    o.write_field_end()?;
+    o.write_field_stop()?;
+    o.write_struct_end()
+}
+
+fn port_reads(s: &[u8]) -> Result<f64, port::Refusal> {
+    let mut p = port::TCompactInputProtocol::new(s);
+    let mut sum = 0.0;
+    p.read_struct_begin()?;
+    p.read_field_begin()?;
+    let list = p.read_list_begin()?;
+    for _ in 0..list.size {
+        p.read_struct_begin()?;
+        while p.read_field_begin()?.field_type != port::TType::Stop {
+            sum += p.read_double()?;
+        }
+        p.read_struct_end()?;
+    }
+    p.read_field_begin()?;
+    p.read_struct_end()?;
+    Ok(sum)
+}
+
+fn crate_reads(s: &[u8]) -> thrift::Result<f64> {
+    let mut p = TCompactInputProtocol::new(s);
+    let mut sum = 0.0;
+    p.read_struct_begin()?;
+    p.read_field_begin()?;
+    let list = p.read_list_begin()?;
+    for _ in 0..list.size {
+        p.read_struct_begin()?;
+        while p.read_field_begin()?.field_type != TType::Stop {
+            sum += p.read_double()?;
+            p.read_field_end()?;
+        }
+        p.read_struct_end()?;
+    }
+    p.read_list_end()?;
+    p.read_field_begin()?;
+    p.read_struct_end()?;
+    Ok(sum)
+}
+
+/// The best of the passes, in nanoseconds.
+fn best(mut run: impl FnMut()) -> f64 {
+    (0..400).map(|_| { let t = Instant::now(); run(); t.elapsed().as_nanos() as f64 }).fold(f64::MAX, f64::min)
+}
+
+fn line(what: &str, theirs: f64, ours: f64) {
+    println!("| {what} | {:.1} | {:.1} | {:.2} |", theirs / 1000.0, ours / 1000.0, theirs / ours);
+}
+
+fn main() {
+    let mut buffer = vec![0; 1 << 17];
+    let n = port_writes(&mut buffer).unwrap();
+    let trial = buffer[..n].to_vec();
+    let mut theirs = Vec::with_capacity(1 << 17);
+    crate_writes(&mut theirs).unwrap();
+    assert_eq!(trial, theirs, "both sides write the same bytes");
+    assert_eq!(port_reads(&trial).unwrap().to_bits(), crate_reads(&trial).unwrap().to_bits());
+    println!("| | crate, µs | port, µs | times as fast |\n|---|---|---|---|");
+    for (what, s, p, c) in [
+        ("skip of a struct of 1000 small i32 fields", struct_of_i32(), port::TType::Struct, TType::Struct),
+        ("skip of a trial of 2000 points of 3 doubles", trial.clone(), port::TType::Struct, TType::Struct),
+        ("skip of a list of 100,000 one-byte i32", list_of_i32(), port::TType::List, TType::List),
+    ] {
+        assert_eq!(port::skip(&s, p), Ok(s.len()));
+        let a = best(|| drop(black_box(TCompactInputProtocol::new(black_box(&s[..])).skip(c))));
+        let b = best(|| drop(black_box(port::skip(black_box(&s), p))));
+        line(what, a, b);
+    }
+    line("reading the trial call by call", best(|| drop(black_box(crate_reads(black_box(&trial))))), best(|| drop(black_box(port_reads(black_box(&trial))))));
+    line("writing it", best(|| drop(black_box(crate_writes(&mut theirs)))), best(|| drop(black_box(port_writes(&mut buffer)))));
+}

@@ -1,0 +1,803 @@
+//! The crate thrift 0.25.0 and the port, call by call on the same inputs: values, places, refusals, bytes written and not written.
+//! A difference is one of docs/DIFFERENCES.md by its number, or it fails the run. `compare [SEED] [MILLIONS]`
+use std::cell::Cell;
+use std::collections::BTreeMap;
+use std::io;
+use std::panic::{catch_unwind, AssertUnwindSafe};
+use tagrumzil as port;
+use thrift::protocol::*;
+use thrift::{Error, ProtocolErrorKind as PK, TransportErrorKind as TK};
+
+// ------------------------------------------------------------------ the crate's side
+
+/// A transport over a slice that shows its place.
+struct Tap<'a>(&'a [u8], &'a Cell<usize>);
+impl io::Read for Tap<'_> {
+    fn read(&mut self, b: &mut [u8]) -> io::Result<usize> {
+        let rest = &self.0[self.1.get()..];
+        let n = b.len().min(rest.len());
+        b[..n].copy_from_slice(&rest[..n]);
+        self.1.set(self.1.get() + n);
+        Ok(n)
+    }
+}
+
+/// The scope's number of the crate's error; 99 where the error doesn't tell.
+fn number(e: &Error) -> u8 {
+    match e {
+        Error::Transport(t) if t.kind == TK::EndOfFile => 1,
+        Error::Protocol(p) => {
+            let m = p.message.as_str();
+            match p.kind {
+                PK::BadVersion => 2,
+                PK::SizeLimit => 8,
+                PK::NegativeSize => 9,
+                PK::DepthLimit => 10,
+                PK::Unknown if m.starts_with("cannot skip field type") => 4,
+                PK::InvalidData if m.ends_with("to TMessageType") => 3,
+                PK::InvalidData if m.ends_with("to TType") => 4,
+                PK::InvalidData if m.ends_with("into bool") => 5,
+                PK::InvalidData if m.starts_with("Variable-length int over") => 6,
+                PK::InvalidData if m == "field id overflow" => 7,
+                PK::InvalidData if m.contains("utf-8") => 11,
+                _ => 99,
+            }
+        }
+        _ => 99,
+    }
+}
+
+fn config(l: port::TConfiguration) -> thrift::TConfiguration {
+    thrift::TConfiguration::builder()
+        .max_frame_size(None)
+        .max_message_size(None)
+        .max_recursion_depth(Some(l.depth as usize))
+        .max_string_size(Some(l.string as usize))
+        .max_container_size(Some(l.container as usize))
+        .build()
+        .unwrap()
+}
+
+const TYPES: [(port::TType, TType); 13] = [
+    (port::TType::Stop, TType::Stop),
+    (port::TType::Bool, TType::Bool),
+    (port::TType::I08, TType::I08),
+    (port::TType::I16, TType::I16),
+    (port::TType::I32, TType::I32),
+    (port::TType::I64, TType::I64),
+    (port::TType::Double, TType::Double),
+    (port::TType::String, TType::String),
+    (port::TType::List, TType::List),
+    (port::TType::Set, TType::Set),
+    (port::TType::Map, TType::Map),
+    (port::TType::Struct, TType::Struct),
+    (port::TType::Uuid, TType::Uuid),
+];
+fn code(t: TType) -> u8 {
+    TYPES.iter().find(|x| x.1 == t).map_or(98, |x| x.0 as u8)
+}
+
+// ------------------------------------------------------------------ answers
+
+#[derive(Clone, Debug, PartialEq)]
+enum V {
+    Unit,
+    Int(i64),
+    Bits(u64),
+    Bytes(Vec<u8>),
+    Field(u8, i16),
+    List(u8, i32),
+    Map(u8, u8, i32),
+    Message(u8, i32, Vec<u8>),
+}
+type A = Result<(V, usize), u8>;
+
+#[derive(Clone, Copy, Debug, PartialEq)]
+enum Call {
+    Message,
+    StructBegin,
+    StructEnd,
+    Field,
+    Bool,
+    I8,
+    I16,
+    I32,
+    I64,
+    Double,
+    Uuid,
+    Bytes,
+    Str,
+    List,
+    Set,
+    Map,
+    Skip(usize),
+}
+use Call::*;
+const READS: [Call; 14] = [Message, Field, Bool, I8, I16, I32, I64, Double, Uuid, Bytes, Str, List, Set, Map];
+const NAMES: [&str; 17] = ["message", "struct begin", "struct end", "field", "bool", "i8", "i16", "i32", "i64", "double", "uuid", "bytes", "string", "list", "set", "map", "skip"];
+fn index(c: Call) -> usize {
+    match c {
+        Message => 0, StructBegin => 1, StructEnd => 2, Field => 3, Bool => 4, I8 => 5, I16 => 6, I32 => 7, I64 => 8, Double => 9, Uuid => 10, Bytes => 11, Str => 12,
+        List => 13, Set => 14, Map => 15, Skip(_) => 16,
+    }
+}
+
+fn by_crate<P: TInputProtocol>(p: &mut P, at: &Cell<usize>, c: Call) -> A {
+    let v = match c {
+        Message => p.read_message_begin().map(|m| V::Message(u8::from(m.message_type), m.sequence_number, m.name.into_bytes())),
+        StructBegin => p.read_struct_begin().map(|_| V::Unit),
+        StructEnd => p.read_struct_end().map(|_| V::Unit),
+        Field => p.read_field_begin().map(|f| V::Field(code(f.field_type), if f.field_type == TType::Stop { 0 } else { f.id.unwrap() })),
+        Bool => p.read_bool().map(|b| V::Int(b as i64)),
+        I8 => p.read_i8().map(|n| V::Int(n as i64)),
+        I16 => p.read_i16().map(|n| V::Int(n as i64)),
+        I32 => p.read_i32().map(|n| V::Int(n as i64)),
+        I64 => p.read_i64().map(V::Int),
+        Double => p.read_double().map(|d| V::Bits(d.to_bits())),
+        Uuid => p.read_uuid().map(|u| V::Bytes(u.as_bytes().to_vec())),
+        Bytes => p.read_bytes().map(V::Bytes),
+        Str => p.read_string().map(|s| V::Bytes(s.into_bytes())),
+        List => p.read_list_begin().map(|l| V::List(code(l.element_type), l.size)),
+        Set => p.read_set_begin().map(|l| V::List(code(l.element_type), l.size)),
+        Map => p.read_map_begin().map(|m| V::Map(m.key_type.map_or(0, code), m.value_type.map_or(0, code), m.size)),
+        Skip(t) => p.skip(TYPES[t].1).map(|_| V::Unit),
+    };
+    v.map(|v| (v, at.get())).map_err(|e| number(&e))
+}
+
+fn by_port(p: &mut port::TCompactInputProtocol, c: Call) -> A {
+    let v = match c {
+        Message => p.read_message_begin().map(|m| V::Message(m.message_type as u8, m.sequence_number, m.name.as_bytes().to_vec())),
+        StructBegin => p.read_struct_begin().map(|_| V::Unit),
+        StructEnd => p.read_struct_end().map(|_| V::Unit),
+        Field => p.read_field_begin().map(|f| V::Field(f.field_type as u8, f.id.unwrap_or(0))),
+        Bool => p.read_bool().map(|b| V::Int(b as i64)),
+        I8 => p.read_i8().map(|n| V::Int(n as i64)),
+        I16 => p.read_i16().map(|n| V::Int(n as i64)),
+        I32 => p.read_i32().map(|n| V::Int(n as i64)),
+        I64 => p.read_i64().map(V::Int),
+        Double => p.read_double_bits().map(V::Bits),
+        Uuid => p.read_uuid().map(|u| V::Bytes(u.to_vec())),
+        Bytes => p.read_bytes().map(|b| V::Bytes(b.to_vec())),
+        Str => p.read_string().map(|s| V::Bytes(s.as_bytes().to_vec())),
+        List => p.read_list_begin().map(|l| V::List(l.element_type as u8, l.size)),
+        Set => p.read_set_begin().map(|l| V::List(l.element_type as u8, l.size)),
+        Map => p.read_map_begin().map(|m| V::Map(m.key_type.map_or(0, |t| t as u8), m.value_type.map_or(0, |t| t as u8), m.size)),
+        Skip(t) => p.skip(TYPES[t].0).map(|_| V::Unit),
+    };
+    v.map(|v| (v, p.place())).map_err(|e| e.number())
+}
+
+// ------------------------------------------------------------------ what a difference is
+
+/// Whether reading a value by the crate's own headers meets a map with elements and Stop as a type.
+fn meets_stop_map<P: TInputProtocol>(p: &mut P, t: TType) -> Result<bool, Error> {
+    let seen = |p: &mut P, t, n: i32| -> Result<bool, Error> {
+        for _ in 0..n {
+            if meets_stop_map(p, t)? {
+                return Ok(true);
+            }
+        }
+        Ok(false)
+    };
+    match t {
+        TType::Struct => {
+            p.read_struct_begin()?;
+            loop {
+                let f = p.read_field_begin()?;
+                if f.field_type == TType::Stop {
+                    p.read_struct_end()?;
+                    return Ok(false);
+                }
+                if meets_stop_map(p, f.field_type)? {
+                    return Ok(true);
+                }
+            }
+        }
+        TType::List => p.read_list_begin().and_then(|l| seen(p, l.element_type, l.size)),
+        TType::Set => p.read_set_begin().and_then(|l| seen(p, l.element_type, l.size)),
+        TType::Map => {
+            let m = p.read_map_begin()?;
+            let (k, v) = (m.key_type.unwrap_or(TType::Stop), m.value_type.unwrap_or(TType::Stop));
+            if m.size > 0 && (k == TType::Stop || v == TType::Stop) {
+                return Ok(true);
+            }
+            for _ in 0..m.size {
+                if meets_stop_map(p, k)? || meets_stop_map(p, v)? {
+                    return Ok(true);
+                }
+            }
+            Ok(false)
+        }
+        other => p.skip(other).map(|_| false),
+    }
+}
+
+/// The number of the difference between two answers of a skip that starts at a place, if it is a known one.
+fn skip_difference(s: &[u8], at: usize, limits: port::TConfiguration, t: usize, depth: u32, theirs: &A, ours: &A) -> Option<&'static str> {
+    let free = thrift::TConfiguration::builder().max_frame_size(None).max_message_size(None).max_recursion_depth(None)
+        .max_string_size(Some(limits.string as usize)).max_container_size(Some(limits.container as usize)).build().unwrap();
+    let place = Cell::new(at);
+    let again = |till: i8| {
+        let place = Cell::new(at);
+        let mut p = TCompactInputProtocol::with_config(Tap(s, &place), free.clone());
+        p.skip_till_depth(TYPES[t].1, till).map(|_| (V::Unit, place.get())).map_err(|e| number(&e))
+    };
+    match (theirs, ours) {
+        // The crate's own count of levels stops it: with more of them it answers as the port.
+        (Err(10), _) if again(127) == *ours => Some(if *ours == Err(4) { "D6" } else { "D5" }),
+        // The port stops at the depth limit, where the crate counts structs alone, or anew at each call.
+        (_, Err(10)) => {
+            let mut wide = port::TCompactInputProtocol::with_config(&s[at..], port::TConfiguration { depth: 64, ..limits });
+            let unlimited = wide.skip(TYPES[t].0).map(|_| (V::Unit, at + wide.place())).map_err(|e| e.number());
+            if unlimited == *theirs {
+                return Some(if depth > 0 { "D4" } else if limits.depth == 0 { "D2" } else { "D3" });
+            }
+            let mut p = TCompactInputProtocol::with_config(Tap(s, &place), free);
+            if let Ok(true) = meets_stop_map(&mut p, TYPES[t].1) {
+                return Some("D1");
+            }
+            None
+        }
+        (_, Err(4)) => {
+            let mut p = TCompactInputProtocol::with_config(Tap(s, &place), free);
+            if let Ok(true) = meets_stop_map(&mut p, TYPES[t].1) { Some("D1") } else { None }
+        }
+        _ => None,
+    }
+}
+
+// ------------------------------------------------------------------ counting
+
+#[derive(Default)]
+struct Tally {
+    read: [u64; 17],
+    wrote: BTreeMap<&'static str, u64>,
+    differences: BTreeMap<&'static str, u64>,
+    refusals: [u64; 17],
+    failed: u64,
+}
+impl Tally {
+    fn fail(&mut self, what: String) {
+        self.failed += 1;
+        if self.failed < 20 {
+            println!("DIFFERENCE {what}");
+        }
+    }
+    fn difference(&mut self, d: &'static str) {
+        *self.differences.entry(d).or_default() += 1;
+    }
+}
+
+struct Rng(u64);
+impl Rng {
+    fn next(&mut self) -> u64 {
+        self.0 = self.0.wrapping_add(0x9E37_79B9_7F4A_7C15);
+        let mut z = self.0;
+        z = (z ^ (z >> 30)).wrapping_mul(0xBF58_476D_1CE4_E5B9);
+        z = (z ^ (z >> 27)).wrapping_mul(0x94D0_49BB_1331_11EB);
+        z ^ (z >> 31)
+    }
+    fn below(&mut self, n: u64) -> u64 {
+        self.next() % n
+    }
+    fn pick<T: Copy>(&mut self, of: &[T]) -> T {
+        of[self.below(of.len() as u64) as usize]
+    }
+}
+
+/// The calls in turn on one input, up to the first refusal of either side. After a refusal the port's state is as it was: it answers the same again.
+fn reads(t: &mut Tally, s: &[u8], limits: port::TConfiguration, calls: &mut dyn FnMut(Option<&V>) -> Option<Call>) {
+    let at = Cell::new(0);
+    let mut theirs = TCompactInputProtocol::with_config(Tap(s, &at), config(limits));
+    let mut ours = port::TCompactInputProtocol::with_config(s, limits);
+    let mut before: Option<V> = None;
+    let mut depth = 0;
+    let mut pending = false;
+    let mut made = Vec::new();
+    while let Some(c) = calls(before.as_ref()) {
+        made.push(c);
+        let start = ours.place();
+        t.read[index(c)] += 1;
+        let a = by_crate(&mut theirs, &at, c);
+        let b = by_port(&mut ours, c);
+        if let Err(n) = b {
+            t.refusals[n as usize] += 1;
+            if ours.place() != start || by_port(&mut ours, c) != b {
+                t.fail(format!("a refusal moved the state: {made:?} on {s:02x?}"));
+            }
+        }
+        if a != b {
+            let known = match c {
+                // A bool field's value waits, and another call comes: out of the grammar's order, since the bytes are not what the caller takes them for.
+                Skip(0) if pending && b == Err(12) => Some("D10"),
+                _ if pending && b == Err(12) && c != Bool => Some("D8"),
+                Skip(k) => skip_difference(s, start, limits, k, depth, &a, &b),
+                _ => None,
+            };
+            match known {
+                Some(d) => t.difference(d),
+                None => t.fail(format!("{made:?} limits {limits:?} on {s:02x?}: crate {a:?}, port {b:?}")),
+            }
+            return;
+        }
+        pending = match (&b, c) {
+            (Ok((V::Field(1, _), _)), Field) => true,
+            (_, Bool | Skip(1)) => false,
+            _ => pending,
+        };
+        match (b, c) {
+            (Err(_), _) => return,
+            (Ok(_), StructBegin) => depth += 1,
+            (Ok(_), StructEnd) => depth -= 1,
+            _ => (),
+        }
+        before = a.ok().map(|x| x.0);
+    }
+}
+
+fn once(c: Call) -> impl FnMut(Option<&V>) -> Option<Call> {
+    let mut left = Some(c);
+    move |_| left.take()
+}
+
+// ------------------------------------------------------------------ trees
+
+#[derive(Clone, Debug)]
+enum Tree {
+    Bool(bool),
+    I8(i8),
+    I16(i16),
+    I32(i32),
+    I64(i64),
+    Double(u64),
+    Str(Vec<u8>),
+    Uuid([u8; 16]),
+    List(bool, usize, Vec<Tree>),
+    Map(usize, usize, Vec<(Tree, Tree)>),
+    Struct(Vec<(i16, Tree)>),
+}
+
+const EDGES: [i64; 24] = [0, 1, -1, 14, 15, 16, 63, 64, -64, -65, 127, 128, 8191, 8192, 32767, -32768, 65535, 1 << 20, (1 << 27) - 1, i32::MAX as i64, i32::MIN as i64, 1 << 55, i64::MAX, i64::MIN];
+
+fn number_near(r: &mut Rng) -> i64 {
+    match r.below(4) {
+        0 => r.next() as i64 >> r.below(64),
+        1 => r.below(20) as i64 - 10,
+        _ => r.pick(&EDGES).wrapping_add(r.below(5) as i64 - 2),
+    }
+}
+
+fn kind_of(t: &Tree) -> usize {
+    match t {
+        Tree::Bool(_) => 1, Tree::I8(_) => 2, Tree::I16(_) => 3, Tree::I32(_) => 4, Tree::I64(_) => 5, Tree::Double(_) => 6, Tree::Str(_) => 7,
+        Tree::List(set, _, _) => if *set { 9 } else { 8 }, Tree::Map(..) => 10, Tree::Struct(_) => 11, Tree::Uuid(_) => 12,
+    }
+}
+
+fn tree(r: &mut Rng, kind: usize, room: u64) -> Tree {
+    let some = |r: &mut Rng| if room == 0 { 1 + r.below(7) as usize } else { 1 + r.below(12) as usize };
+    let count = |r: &mut Rng| match r.below(12) { 0 => 14, 1 => 15, 2 => 16, 3 => 0, _ => r.below(4) };
+    match kind {
+        1 => Tree::Bool(r.below(2) == 0),
+        2 => Tree::I8(r.next() as i8),
+        3 => Tree::I16(number_near(r) as i16),
+        4 => Tree::I32(number_near(r) as i32),
+        5 => Tree::I64(number_near(r)),
+        6 => Tree::Double(r.next()),
+        7 => Tree::Str((0..r.pick(&[0, 1, 2, 5, 127, 128])).map(|_| b'a' + r.below(26) as u8).collect()),
+        12 => Tree::Uuid([(); 16].map(|_| r.next() as u8)),
+        8 | 9 => {
+            let of = some(r);
+            let n = count(r);
+            Tree::List(kind == 9, of, (0..n).map(|_| tree(r, of, room.saturating_sub(1))).collect())
+        }
+        10 => {
+            let (k, v) = (some(r), some(r));
+            let n = count(r);
+            Tree::Map(k, v, (0..n).map(|_| (tree(r, k, room.saturating_sub(1)), tree(r, v, room.saturating_sub(1)))).collect())
+        }
+        _ => {
+            let mut id = 0i16;
+            let mut fields = Vec::new();
+            for _ in 0..r.below(6) {
+                // ids whose difference from the last fits 16 signed bits: the scope's domain
+                let step = r.pick(&[1, 1, 2, 14, 15, 16, -1, 300, -300, 20000]);
+                id = match id.checked_add(step) { Some(n) => n, None => break };
+                let of = some(r);
+                fields.push((id, tree(r, of, room.saturating_sub(1))));
+            }
+            Tree::Struct(fields)
+        }
+    }
+}
+
+#[derive(Clone, Debug)]
+enum W {
+    Message(usize, i32, String),
+    StructBegin,
+    StructEnd,
+    Field(usize, i16),
+    Stop,
+    Bool(bool),
+    I8(i8),
+    I16(i16),
+    I32(i32),
+    I64(i64),
+    Double(u64),
+    Uuid([u8; 16]),
+    Bytes(Vec<u8>),
+    Str(String),
+    List(usize, i32),
+    Set(usize, i32),
+    Map(usize, usize, i32),
+}
+fn wname(w: &W) -> &'static str {
+    match w {
+        W::Message(..) => "message", W::StructBegin => "struct begin", W::StructEnd => "struct end", W::Field(..) => "field", W::Stop => "stop", W::Bool(_) => "bool",
+        W::I8(_) => "i8", W::I16(_) => "i16", W::I32(_) => "i32", W::I64(_) => "i64", W::Double(_) => "double", W::Uuid(_) => "uuid", W::Bytes(_) => "bytes",
+        W::Str(_) => "string", W::List(..) => "list", W::Set(..) => "set", W::Map(..) => "map",
+    }
+}
+
+/// The writer's calls for a tree, and the reader's.
+fn calls(t: &Tree, w: &mut Vec<W>, r: &mut Vec<Call>) {
+    match t {
+        Tree::Bool(b) => { w.push(W::Bool(*b)); r.push(Bool) }
+        Tree::I8(n) => { w.push(W::I8(*n)); r.push(I8) }
+        Tree::I16(n) => { w.push(W::I16(*n)); r.push(I16) }
+        Tree::I32(n) => { w.push(W::I32(*n)); r.push(I32) }
+        Tree::I64(n) => { w.push(W::I64(*n)); r.push(I64) }
+        Tree::Double(n) => { w.push(W::Double(*n)); r.push(Double) }
+        Tree::Uuid(u) => { w.push(W::Uuid(*u)); r.push(Uuid) }
+        Tree::Str(s) => {
+            if s.len() % 2 == 0 { w.push(W::Bytes(s.clone())); r.push(Bytes) } else { w.push(W::Str(String::from_utf8(s.clone()).unwrap())); r.push(Str) }
+        }
+        Tree::List(set, of, xs) => {
+            w.push(if *set { W::Set(*of, xs.len() as i32) } else { W::List(*of, xs.len() as i32) });
+            r.push(if *set { Set } else { List });
+            xs.iter().for_each(|x| calls(x, w, r));
+        }
+        Tree::Map(k, v, xs) => {
+            w.push(W::Map(*k, *v, xs.len() as i32));
+            r.push(Map);
+            xs.iter().for_each(|(a, b)| { calls(a, w, r); calls(b, w, r) });
+        }
+        Tree::Struct(fs) => {
+            w.push(W::StructBegin);
+            r.push(StructBegin);
+            for (id, x) in fs {
+                w.push(W::Field(kind_of(x), *id));
+                r.push(Field);
+                calls(x, w, r);
+            }
+            w.push(W::Stop);
+            r.push(Field);
+            w.push(W::StructEnd);
+            r.push(StructEnd);
+        }
+    }
+}
+
+#[derive(Clone)]
+struct Sink<'a>(&'a std::cell::RefCell<Vec<u8>>);
+impl io::Write for Sink<'_> {
+    fn write(&mut self, b: &[u8]) -> io::Result<usize> {
+        self.0.borrow_mut().extend_from_slice(b);
+        Ok(b.len())
+    }
+    fn flush(&mut self) -> io::Result<()> {
+        Ok(())
+    }
+}
+
+fn crate_writes<P: TOutputProtocol>(p: &mut P, w: &W) -> Result<(), u8> {
+    let t = |k: usize| TYPES[k].1;
+    match w {
+        W::Message(k, n, name) => p.write_message_begin(&TMessageIdentifier::new(name.clone(), [TMessageType::Call, TMessageType::Reply, TMessageType::Exception, TMessageType::OneWay][*k], *n)),
+        W::StructBegin => p.write_struct_begin(&TStructIdentifier::new("")),
+        W::StructEnd => p.write_struct_end(),
+        W::Field(k, id) => p.write_field_begin(&TFieldIdentifier::new("", t(*k), *id)),
+        W::Stop => p.write_field_stop(),
+        W::Bool(b) => p.write_bool(*b),
+        W::I8(n) => p.write_i8(*n),
+        W::I16(n) => p.write_i16(*n),
+        W::I32(n) => p.write_i32(*n),
+        W::I64(n) => p.write_i64(*n),
+        W::Double(n) => p.write_double(f64::from_bits(*n)),
+        W::Uuid(u) => p.write_uuid(&uuid::Uuid::from_bytes(*u)),
+        W::Bytes(b) => p.write_bytes(b),
+        W::Str(s) => p.write_string(s),
+        W::List(k, n) => p.write_list_begin(&TListIdentifier::new(t(*k), *n)),
+        W::Set(k, n) => p.write_set_begin(&TSetIdentifier::new(t(*k), *n)),
+        W::Map(k, v, n) => p.write_map_begin(&TMapIdentifier::new(t(*k), t(*v), *n)),
+    }
+    .map_err(|e| number(&e))
+}
+
+fn port_writes(p: &mut port::TCompactOutputProtocol, w: &W) -> Result<(), u8> {
+    use port::TMessageType as M;
+    let t = |k: usize| TYPES[k].0;
+    match w {
+        W::Message(k, n, name) => p.write_message_begin(&port::TMessageIdentifier { name, message_type: [M::Call, M::Reply, M::Exception, M::OneWay][*k], sequence_number: *n }),
+        W::StructBegin => p.write_struct_begin(),
+        W::StructEnd => p.write_struct_end(),
+        W::Field(k, id) => p.write_field_begin(t(*k), *id),
+        W::Stop => p.write_field_stop(),
+        W::Bool(b) => p.write_bool(*b),
+        W::I8(n) => p.write_i8(*n),
+        W::I16(n) => p.write_i16(*n),
+        W::I32(n) => p.write_i32(*n),
+        W::I64(n) => p.write_i64(*n),
+        W::Double(n) => p.write_double_bits(*n),
+        W::Uuid(u) => p.write_uuid(u),
+        W::Bytes(b) => p.write_bytes(b),
+        W::Str(s) => p.write_string(s),
+        W::List(k, n) => p.write_list_begin(t(*k), *n),
+        W::Set(k, n) => p.write_set_begin(t(*k), *n),
+        W::Map(k, v, n) => p.write_map_begin(t(*k), t(*v), *n),
+    }
+    .map_err(|e| e.number())
+}
+
+const FILL: u8 = 0xAA;
+
+/// Where the scope says otherwise than the crate of a call that both make in the same state.
+fn write_difference(w: &W, last: i16, limits: port::TConfiguration, ours: Result<(), u8>) -> Option<&'static str> {
+    match (w, ours) {
+        (W::Field(k, id), Ok(())) if *k != 1 && (*id as i32 - last as i32) < -32768 && (1..15).contains(&id.wrapping_sub(last)) => Some("D16"),
+        (W::List(_, n) | W::Set(_, n), Err(9)) if *n < 0 => Some("D18"),
+        (W::Map(_, _, n), Err(9)) if *n < 0 => Some("D19"),
+        (W::List(0, n) | W::Set(0, n), Err(4)) if *n > 0 => Some("D20"),
+        (W::Map(k, v, n), Err(4)) if *n > 0 && (*k == 0 || *v == 0) => Some("D20"),
+        (W::Field(0, _), Err(4)) => Some("D21"),
+        (W::List(_, n) | W::Set(_, n) | W::Map(_, _, n), Err(8)) if *n as u32 > limits.container => Some("D26"),
+        (W::Bytes(b), Err(8)) if b.len() > limits.string as usize => Some("D26"),
+        (W::Str(s) | W::Message(_, _, s), Err(8)) if s.len() > limits.string as usize => Some("D26"),
+        _ => None,
+    }
+}
+
+/// The calls in turn on both sides; `room` bytes are lent to the port. Answers the bytes where nothing was refused.
+fn writes(t: &mut Tally, ws: &[W], limits: port::TConfiguration, room: usize) -> Option<Vec<u8>> {
+    let sink = std::cell::RefCell::new(Vec::new());
+    let mut theirs = TCompactOutputProtocol::with_config(Sink(&sink), config(limits));
+    let mut buffer = vec![FILL; room];
+    let mut ours = port::TCompactOutputProtocol::with_config(&mut buffer, limits);
+    let mut last = 0;
+    let mut outer = Vec::new();
+    for (i, w) in ws.iter().enumerate() {
+        *t.wrote.entry(wname(w)).or_default() += 1;
+        let start = ours.place();
+        let a = crate_writes(&mut theirs, w);
+        let b = port_writes(&mut ours, w);
+        let end = ours.place();
+        let bytes = sink.borrow().clone();
+        if let Err(n) = b {
+            t.refusals[n as usize] += 1;
+            let again = port_writes(&mut ours, w);
+            if end != start || again != b || buffer[..start] != bytes[..start] || buffer[start..].iter().any(|x| *x != FILL) {
+                t.fail(format!("a refusal changed something: {:?}", &ws[..=i]));
+            } else if n == 14 && a == Ok(()) && bytes.len() > room {
+                t.difference("D25");
+            } else if a != b {
+                match write_difference(w, last, limits, b) {
+                    Some(d) => t.difference(d),
+                    None => t.fail(format!("{:?} limits {limits:?}: crate {a:?} {:02x?}, port {b:?}", &ws[..=i], &bytes[start..])),
+                }
+            }
+            return None;
+        }
+        let same = a == b && bytes == ours.written();
+        if !same {
+            match write_difference(w, last, limits, b) {
+                Some(d) => t.difference(d),
+                None => {
+                    let got = ours.written()[start..].to_vec();
+                    t.fail(format!("{:?} limits {limits:?}: crate {a:?} {:02x?}, port {b:?} {got:02x?}", &ws[..=i], &bytes[start..]))
+                }
+            }
+            return None;
+        }
+        match w {
+            W::Field(_, id) => last = *id,
+            W::StructBegin => { outer.push(last); last = 0 }
+            W::StructEnd => last = outer.pop().unwrap_or(0),
+            _ => (),
+        }
+    }
+    let bytes = sink.into_inner();
+    if buffer[bytes.len()..].iter().any(|x| *x != FILL) {
+        t.fail(format!("bytes behind were written: {ws:?}"));
+    }
+    Some(bytes)
+}
+
+// ------------------------------------------------------------------ the run
+
+const WIDE: port::TConfiguration = port::TConfiguration { depth: 64, string: i32::MAX as u32, container: i32::MAX as u32 };
+
+fn some_limits(r: &mut Rng) -> port::TConfiguration {
+    let size = |r: &mut Rng| r.pick(&[0, 1, 2, 3, 14, 15, 16, 127, 128, 1000, 1 << 20, 0x7fff_fffe, 0x7fff_ffff]);
+    let (string, container) = (size(r), size(r));
+    port::TConfiguration { depth: r.pick(&[0, 1, 2, 3, 4, 63, 64]), string, container }
+}
+
+fn every_call(t: &mut Tally, s: &[u8], limits: port::TConfiguration) {
+    for c in READS {
+        reads(t, s, limits, &mut once(c));
+    }
+    for k in 0..13 {
+        reads(t, s, limits, &mut once(Skip(k)));
+    }
+}
+
+fn main() {
+    std::panic::set_hook(Box::new(|_| ()));
+    let arg = |i: usize, d: u64| std::env::args().nth(i).and_then(|x| x.parse().ok()).unwrap_or(d);
+    let (seed, millions) = (arg(1, 1), arg(2, 100));
+    let mut t = Tally::default();
+    let mut r = Rng(seed);
+
+    // all inputs of 0 to 2 bytes, for each call
+    every_call(&mut t, &[], WIDE);
+    for a in 0..=255 {
+        every_call(&mut t, &[a], WIDE);
+        for b in 0..=255 {
+            every_call(&mut t, &[a, b], WIDE);
+        }
+    }
+    // every id before every first byte of a field, at the bounds
+    for last in [-32768i16, -32767, -15, -14, -1, 0, 1, 32752, 32753, 32754, 32759, 32760, 32766, 32767] {
+        let mut head = vec![5];
+        let z = ((last << 1) ^ (last >> 15)) as u16;
+        head.extend([z as u8 | 0x80, (z >> 7) as u8 | 0x80, (z >> 14) as u8]);
+        for b in 0..=255u8 {
+            for tail in [&[][..], &[0], &[1], &[0xFF, 0xFF, 0x03], &[0xFE, 0xFF, 0x03], &[0x80; 5]] {
+                let s = [&head[..], &[b], tail].concat();
+                let mut n = 0;
+                reads(&mut t, &s, WIDE, &mut |_| { n += 1; if n < 3 { Some(Field) } else { None } });
+            }
+        }
+    }
+    // all i16, and every id after ids at the bounds
+    for n in i16::MIN..=i16::MAX {
+        if let Some(bytes) = writes(&mut t, &[W::I16(n)], WIDE, 8) {
+            reads(&mut t, &bytes, WIDE, &mut once(I16));
+        }
+        for last in [0i16, -32768, 32767, -1, 100, 20000] {
+            writes(&mut t, &[W::Field(4, last), W::Field(4, n)], WIDE, 12);
+        }
+        writes(&mut t, &[W::Field(1, n), W::Bool(n % 2 == 0)], WIDE, 12);
+    }
+    // single calls at every boundary, with every little room
+    for n in EDGES.iter().flat_map(|e| (-3..4).map(move |d| e.wrapping_add(d))) {
+        let z = n as i32;
+        for room in [0, 1, 2, 3, 4, 5, 9, 10, 11, 40] {
+            for w in [W::I8(n as i8), W::I16(n as i16), W::I32(z), W::I64(n), W::Double(n as u64), W::Bool(z & 1 == 0), W::Stop, W::Uuid([n as u8; 16]), W::Field(4, n as i16)] {
+                writes(&mut t, &[w], WIDE, room);
+            }
+            for k in 0..13 {
+                for limits in [WIDE, port::TConfiguration { depth: 1, string: 3, container: 15 }] {
+                    writes(&mut t, &[W::List(k, z)], limits, room);
+                    writes(&mut t, &[W::Set(k, z)], limits, room);
+                    writes(&mut t, &[W::Map(k, (k + z.unsigned_abs() as usize) % 13, z)], limits, room);
+                    writes(&mut t, &[W::Field(k, z as i16)], limits, room);
+                }
+            }
+            let text: String = "é".repeat((z & 0xff) as usize % 70);
+            for limits in [WIDE, port::TConfiguration { depth: 1, string: 60, container: 15 }] {
+                for w in [W::Str(text.clone()), W::Bytes(vec![7; (z & 0x1ff) as usize]), W::Message((z & 3) as usize, z, text.clone())] {
+                    writes(&mut t, &[w], limits, room * 16);
+                }
+            }
+        }
+    }
+    // random bytes, and whole messages, by each side, and damaged copies of them
+    let total = |t: &Tally| t.read.iter().sum::<u64>() + t.wrote.values().sum::<u64>();
+    while total(&t) < millions * 1_000_000 {
+        let s: Vec<u8> = (0..r.below(12)).map(|_| if r.below(3) == 0 { r.pick(&[0, 1, 2, 0x7F, 0x80, 0xFF, 0x82, 0x21, 0x15, 0x1C, 0x19]) } else { r.next() as u8 }).collect();
+        let limits = if r.below(2) == 0 { WIDE } else { some_limits(&mut r) };
+        every_call(&mut t, &s, limits);
+
+        let kind = r.pick(&[11, 11, 11, 8, 9, 10]);
+        let value = tree(&mut r, kind, 4);
+        let (mut w, mut c) = (vec![W::Message(r.below(4) as usize, number_near(&mut r) as i32, "trial".into())], vec![Message]);
+        calls(&value, &mut w, &mut c);
+        let limits = if r.below(3) > 0 { WIDE } else { some_limits(&mut r) };
+        let room = if r.below(4) == 0 { r.below(400) as usize } else { 1 << 16 };
+        let Some(bytes) = writes(&mut t, &w, limits, room) else { continue };
+        let run = |t: &mut Tally, s: &[u8], limits| {
+            let mut i = 0;
+            reads(t, s, limits, &mut |_| { i += 1; c.get(i - 1).copied() });
+            let mut i = 0;
+            reads(t, s, limits, &mut |_| { i += 1; [Message, Skip(kind)].get(i - 1).copied() });
+        };
+        run(&mut t, &bytes, limits);
+        let other = some_limits(&mut r);
+        run(&mut t, &bytes, other);
+        for _ in 0..4 {
+            let mut bad = bytes.clone();
+            match r.below(3) {
+                0 => bad.truncate(r.below(bytes.len() as u64 + 1) as usize),
+                1 => { let i = r.below(bad.len() as u64) as usize; bad[i] ^= 1 << r.below(8) }
+                _ => { let i = r.below(bad.len() as u64) as usize; bad[i] = r.next() as u8 }
+            }
+            run(&mut t, &bad, WIDE);
+        }
+    }
+    // nestings around the limit, entered by skip and by struct calls
+    for (depth, begun) in [(64, 0), (64, 1), (64, 2), (3, 0), (3, 1), (0, 0), (1, 1)] {
+        for n in 0..70usize {
+            for inner in [&[0x13, 0][..], &[0x03], &[0x10], &[0x1C, 0], &[0x15, 2], &[0x11, 1], &[0x1B, 1, 0x30]] {
+                let s = [&vec![0x19; n][..], inner].concat();
+                let limits = port::TConfiguration { depth, ..WIDE };
+                let mut i = 0;
+                reads(&mut t, &s, limits, &mut |_| { i += 1; if i <= begun { Some(StructBegin) } else if i == begun + 1 { Some(Skip(8)) } else { None } });
+            }
+        }
+    }
+    // calls out of the grammar's order, where the crate panics
+    for ws in [vec![W::StructEnd], vec![W::Field(1, 1), W::Stop], vec![W::Field(1, 1), W::Field(1, 2)], vec![W::Field(1, 1), W::StructEnd]] {
+        let sink = std::cell::RefCell::new(Vec::new());
+        let mut theirs = TCompactOutputProtocol::with_config(Sink(&sink), config(WIDE));
+        let panics = catch_unwind(AssertUnwindSafe(|| ws.iter().for_each(|w| drop(crate_writes(&mut theirs, w))))).is_err();
+        let mut buffer = [FILL; 16];
+        let mut ours = port::TCompactOutputProtocol::with_config(&mut buffer, WIDE);
+        let b = ws.iter().map(|w| port_writes(&mut ours, w)).last().unwrap();
+        if panics && b == Err(12) { t.difference(if ws.len() == 1 { "D24" } else { "D23" }) } else { t.fail(format!("{ws:?}: panics {panics}, port {b:?}")) }
+    }
+
+    // a bool that waits, and another call
+    for c in READS.into_iter().chain((0..13).map(Skip)).chain([StructBegin, StructEnd]).filter(|c| !matches!(c, Bool | Skip(1))) {
+        let mut i = 0;
+        reads(&mut t, &[0x11, 0x05, 1, 2, 3, 4, 5, 6, 7, 8, 9, 10, 11, 12, 13, 14, 15, 16, 17], WIDE, &mut |_| { i += 1; [StructBegin, Field, c].get(i - 1).copied() });
+    }
+    for w in [W::I8(1), W::Field(4, 2), W::StructBegin, W::Message(0, 0, "t".into()), W::List(4, 0)] {
+        let mut buffer = [FILL; 16];
+        let mut ours = port::TCompactOutputProtocol::with_config(&mut buffer, WIDE);
+        port_writes(&mut ours, &W::Field(1, 1)).unwrap();
+        let sink = std::cell::RefCell::new(Vec::new());
+        let mut theirs = TCompactOutputProtocol::with_config(Sink(&sink), config(WIDE));
+        crate_writes(&mut theirs, &W::Field(1, 1)).unwrap();
+        match (crate_writes(&mut theirs, &w), port_writes(&mut ours, &w)) {
+            (Ok(()), Err(12)) => t.difference("D22"),
+            other => t.fail(format!("{w:?} while a bool waits: {other:?}")),
+        }
+    }
+    // a struct ended that was not begun
+    let place = Cell::new(0);
+    let panics = catch_unwind(AssertUnwindSafe(|| TCompactInputProtocol::with_config(Tap(&[], &place), config(WIDE)).read_struct_end().is_ok())).is_err();
+    let b = port::TCompactInputProtocol::with_config(&[], WIDE).read_struct_end().map_err(|e| e.number());
+    if panics && b == Err(12) { t.difference("D11") } else { t.fail(format!("struct end at depth 0: panics {panics}, port {b:?}")) }
+    // limits that no state may have
+    for limits in [port::TConfiguration { depth: 65, ..WIDE }, port::TConfiguration { string: 1 << 31, ..WIDE }, port::TConfiguration { container: u32::MAX, ..WIDE }] {
+        for c in READS {
+            let b = by_port(&mut port::TCompactInputProtocol::with_config(&[0; 32], limits), c);
+            if b == Err(15) { t.difference("D13") } else { t.fail(format!("{c:?} under {limits:?}: port {b:?}")) }
+        }
+    }
+    // the crate's limit on a message, which has no equal in the port
+    for (c, s) in [(List, &[0xf7, 0x81, 0x80, 0xa0, 0x06][..]), (List, &[0xf3, 0x81, 0x80, 0x80, 0x32]), (Map, &[0x81, 0x80, 0xc8, 0x01, 0xdd])] {
+        let place = Cell::new(0);
+        let a = by_crate(&mut TCompactInputProtocol::with_config(Tap(s, &place), thrift::TConfiguration::default()), &place, c);
+        let b = by_port(&mut port::TCompactInputProtocol::with_config(s, WIDE), c);
+        if a == Err(8) && b.is_ok() { t.difference("D7") } else { t.fail(format!("{c:?} on {s:02x?}: crate {a:?}, port {b:?}")) }
+    }
+
+    println!("seed {seed}");
+    for (n, k) in NAMES.iter().zip(t.read) {
+        println!("read {n}: {k}");
+    }
+    for (n, k) in &t.wrote {
+        println!("write {n}: {k}");
+    }
+    for (n, k) in t.refusals.iter().enumerate().filter(|x| *x.1 > 0) {
+        println!("refused {n}: {k}");
+    }
+    for (d, k) in &t.differences {
+        println!("difference {d}: {k}");
+    }
+    println!("{} cases, {} unexplained", total(&t), t.failed);
+    std::process::exit((t.failed > 0) as i32);
+}

@@ -1,0 +1,4 @@
+pub mod Through
+pub mod Making
+pub mod Nesting
+pub mod Bared

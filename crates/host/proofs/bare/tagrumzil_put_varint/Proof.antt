@@ -1,0 +1,16 @@
+use borrow.Author.Needs.{needs}
+use Rattle.host.proofs.Bared.{bares}
+use Rattle.host.proofs.bare.tagrumzil_put_varint.Statement.{statement}
+use Rattle.host.proofs.bare.tagrumzil_put_varint.Tie as tie
+
+pub tagrumzil-put-varint-spec : {M : Type 1} → statement M
+tagrumzil-put-varint-spec =
+    tie.close
+    (tie.spec
+    (λ c κs. search needs)
+    (λ c. search needs)
+    (λ c. search needs)
+    (λ c. search needs)
+    (λ c. search bares)
+    (λ c. search needs)
+    (λ c. search bares))

@@ -1,0 +1,22 @@
+use borrow.Author.Needs.{needs}
+use Rattle.host.proofs.Nesting.{structs-read}
+use Rattle.host.proofs.nested.tagrumzil_read_struct_begin.Statement.{statement}
+use Rattle.host.proofs.nested.tagrumzil_read_struct_begin.Tie as tie
+
+pub tagrumzil-read-struct-begin-spec : {M : Type 1} → statement M
+tagrumzil-read-struct-begin-spec =
+    tie.close
+    (tie.spec
+    (λ c κs. search needs)
+    (λ c κs. search needs)
+    (λ c. search needs)
+    (λ c κs. search needs)
+    (λ c κs. search needs)
+    (λ c. search needs)
+    (λ c κs. search needs)
+    (λ c. search needs)
+    (λ c. search needs)
+    (λ c. search structs-read)
+    (λ c. search needs)
+    (λ c. search needs)
+    (λ c. search structs-read))

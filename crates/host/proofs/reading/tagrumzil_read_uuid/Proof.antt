@@ -1,0 +1,14 @@
+use borrow.Author.Needs.{needs}
+use Rattle.host.proofs.Through.{through}
+use Rattle.host.proofs.reading.tagrumzil_read_uuid.Statement.{statement}
+use Rattle.host.proofs.reading.tagrumzil_read_uuid.Tie as tie
+
+pub tagrumzil-read-uuid-spec : {M : Type 1} → statement M
+tagrumzil-read-uuid-spec =
+    tie.close
+    (tie.spec
+    (λ c κs. search needs)
+    (λ c κs. search needs)
+    (λ c κs. search needs)
+    (λ c. search needs)
+    (λ c. search through))

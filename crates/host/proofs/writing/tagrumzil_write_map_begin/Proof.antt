@@ -1,0 +1,15 @@
+use borrow.Author.Needs.{needs}
+use Rattle.host.proofs.Making.{making}
+use Rattle.host.proofs.writing.tagrumzil_write_map_begin.Statement.{statement}
+use Rattle.host.proofs.writing.tagrumzil_write_map_begin.Tie as tie
+
+pub tagrumzil-write-map-begin-spec : {M : Type 1} → statement M
+tagrumzil-write-map-begin-spec =
+    tie.close
+    (tie.spec
+    (λ c κs. search needs)
+    (λ c κs. search needs)
+    (λ c κs. search needs)
+    (λ c. search needs)
+    (λ c. search needs)
+    (λ c. search making))

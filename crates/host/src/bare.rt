@@ -1,0 +1,121 @@
+// The number calls, which need no state.
+ghost use mathlib.Core.Path.{_≡_};
+ghost use lib.ListN.{length};
+ghost use Rattle.numbers.specs.Varint.{fewest};
+ghost use Rattle.zigzag.specs.Zigzag.{zigzag, unzigzag};
+ghost use Rattle.numbers.specs.Answers.{varint32At, varint64At, signed16At, bits64At};
+ghost use Rattle.host.specs.Bare.{Found32, Found64, Found16, FoundBits, PutNumber};
+use numbers::Bits64;
+use numbers::Int16;
+use numbers::Varint32;
+use numbers::Varint64;
+use numbers::Wrote;
+
+// The varint at a place of the input, and the place behind it.
+#[no_mangle]
+pub extern "C" fn tagrumzil_varint32(s: &[u8], at: usize, value: &mut u32, end: &mut usize) -> u8
+    ensures { λ r. ⌜ Found32 (now (value .entry)) (now (value .exit)) (now (end .entry)) (now (end .exit)) r (varint32At (now (s .entry)) at) ⌝ }
+{
+    match numbers::read_varint32(s, at) {
+        Varint32::Got(v, p) => {
+            *value = v;
+            *end = p;
+            0
+        }
+        Varint32::Refused(why) => why,
+    }
+}
+
+#[no_mangle]
+pub extern "C" fn tagrumzil_varint64(s: &[u8], at: usize, value: &mut u64, end: &mut usize) -> u8
+    ensures { λ r. ⌜ Found64 (now (value .entry)) (now (value .exit)) (now (end .entry)) (now (end .exit)) r (varint64At (now (s .entry)) at) ⌝ }
+{
+    match numbers::read_varint64(s, at) {
+        Varint64::Got(v, p) => {
+            *value = v;
+            *end = p;
+            0
+        }
+        Varint64::Refused(why) => why,
+    }
+}
+
+// An i16 at a place of the input: a 32-bit zigzag number's low 16 bits.
+#[no_mangle]
+pub extern "C" fn tagrumzil_i16(s: &[u8], at: usize, value: &mut i16, end: &mut usize) -> u8
+    ensures { λ r. ⌜ Found16 (now (value .entry)) (now (value .exit)) (now (end .entry)) (now (end .exit)) r (signed16At (now (s .entry)) at) ⌝ }
+{
+    match numbers::read_i16(s, at) {
+        Int16::Got(v, p) => {
+            *value = v;
+            *end = p;
+            0
+        }
+        Int16::Refused(why) => why,
+    }
+}
+
+// The bits of the eight bytes at a place of the input, lowest first.
+#[no_mangle]
+pub extern "C" fn tagrumzil_le64(s: &[u8], at: usize, value: &mut u64, end: &mut usize) -> u8
+    ensures { λ r. ⌜ FoundBits (now (value .entry)) (now (value .exit)) (now (end .entry)) (now (end .exit)) r (bits64At (now (s .entry)) at) ⌝ }
+{
+    match numbers::read_le64(s, at) {
+        Bits64::Got(v, p) => {
+            *value = v;
+            *end = p;
+            0
+        }
+        Bits64::Refused(why) => why,
+    }
+}
+
+// The number in the fewest bytes, at a place of the buffer, and the place behind it.
+#[no_mangle]
+pub extern "C" fn tagrumzil_put_varint(buf: &mut [u8], at: usize, n: u64, end: &mut usize) -> u8
+    ensures { λ r. ⌜ PutNumber (now (buf .entry)) (now (buf .exit)) (now (end .entry)) (now (end .exit)) r at (fewest n) ⌝ }
+{
+    match numbers::write_varint64(buf, at, n) {
+        Wrote::To(p) => {
+            *end = p;
+            0
+        }
+        Wrote::Refused(why) => why,
+    }
+}
+
+// How many bytes it takes.
+#[no_mangle]
+pub extern "C" fn tagrumzil_varint_len(n: u64) -> usize
+    ensures { λ r. ⌜ r ≡ length (fewest n) ⌝ }
+{
+    numbers::varint_len(n)
+}
+
+#[no_mangle]
+pub extern "C" fn tagrumzil_zigzag_to_i32(n: u32) -> i32
+    ensures { λ r. ⌜ r ≡ unzigzag n ⌝ }
+{
+    zigzag::zigzag_to_i32(n)
+}
+
+#[no_mangle]
+pub extern "C" fn tagrumzil_zigzag_to_i64(n: u64) -> i64
+    ensures { λ r. ⌜ r ≡ unzigzag n ⌝ }
+{
+    zigzag::zigzag_to_i64(n)
+}
+
+#[no_mangle]
+pub extern "C" fn tagrumzil_i32_to_zigzag(n: i32) -> u32
+    ensures { λ r. ⌜ r ≡ zigzag n ⌝ }
+{
+    zigzag::i32_to_zigzag(n)
+}
+
+#[no_mangle]
+pub extern "C" fn tagrumzil_i64_to_zigzag(n: i64) -> u64
+    ensures { λ r. ⌜ r ≡ zigzag n ⌝ }
+{
+    zigzag::i64_to_zigzag(n)
+}

@@ -1,0 +1,5 @@
+// The port for C and Rust: plain numbers and slices, and a state in a lent row.
+mod bare;
+mod nested;
+mod reading;
+mod writing;

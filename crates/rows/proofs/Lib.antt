@@ -1,0 +1,4 @@
+pub mod Cases
+pub mod Found
+pub mod Wrote
+pub mod Ids

@@ -1,0 +1,4 @@
+pub mod Row
+pub mod Reads
+pub mod Writes
+pub mod Structs

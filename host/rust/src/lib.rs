@@ -1,0 +1,57 @@
+//! Thrift's compact protocol over slices: a reader, a writer and skip, each call proved to meet its contract in the core that this crate links.
+//!
+//! The names are those of the crate `thrift`. A reader borrows its input and hands out parts of it, a writer borrows its buffer; neither allocates.
+//! A refused call hands back a [`Refusal`] with its number and leaves reader, writer and buffer as they were, so it may be tried again.
+//!
+//! ```
+//! use tagrumzil::{TCompactInputProtocol, TCompactOutputProtocol, TType};
+//!
+//! let mut buffer = [0; 64];
+//! let mut out = TCompactOutputProtocol::new(&mut buffer);
+//! out.write_struct_begin()?;
+//! out.write_field_begin(TType::I32, 1)?;
+//! out.write_i32(-1)?;
+//! out.write_field_stop()?;
+//! out.write_struct_end()?;
+//! let bytes = out.written();
+//!
+//! let mut input = TCompactInputProtocol::new(bytes);
+//! input.read_struct_begin()?;
+//! let field = input.read_field_begin()?;
+//! assert_eq!((field.field_type, field.id), (TType::I32, Some(1)));
+//! assert_eq!(input.read_i32()?, -1);
+//! # Ok::<(), tagrumzil::Refusal>(())
+//! ```
+#![warn(missing_docs)]
+
+mod ffi;
+mod number;
+mod reader;
+mod refusal;
+mod types;
+mod writer;
+
+pub use number::{i32_to_zigzag, i64_to_zigzag, read_i16, read_le64, read_varint32, read_varint64, varint_len, write_varint, zigzag_to_i32, zigzag_to_i64};
+pub use reader::{skip, TCompactInputProtocol};
+pub use refusal::Refusal;
+pub use types::{TConfiguration, TFieldIdentifier, TListIdentifier, TMapIdentifier, TMessageIdentifier, TMessageType, TType};
+pub use writer::TCompactOutputProtocol;
+
+/// How many numbers a state's row has: place, last id, depth, what waits, and the three limits.
+pub(crate) const ROW: usize = 7;
+/// How many ids of outer structs it can keep.
+pub(crate) const IDS: usize = 64;
+
+/// The row of a new state under these limits.
+pub(crate) fn new_row(limits: TConfiguration) -> [u64; ROW] {
+    [0, 0, 0, 0, limits.depth as u64, limits.string as u64, limits.container as u64]
+}
+
+/// Ok where the number is 0.
+pub(crate) fn told(number: u8) -> Result<(), Refusal> {
+    if number == 0 {
+        Ok(())
+    } else {
+        Err(Refusal::from_number(number))
+    }
+}

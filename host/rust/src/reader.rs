@@ -1,0 +1,171 @@
+use crate::{ffi, new_row, told, Refusal, TConfiguration, TFieldIdentifier, TListIdentifier, TMapIdentifier, TMessageIdentifier, TMessageType, TType, IDS, ROW};
+
+/// Reads values of the compact protocol from a slice.
+#[derive(Clone, Debug)]
+pub struct TCompactInputProtocol<'a> {
+    input: &'a [u8],
+    row: [u64; ROW],
+    ids: [i16; IDS],
+}
+
+// A call over (input, row) whose answers go to the numbers lent.
+macro_rules! call {
+    ($self:ident, $export:ident $(, $arg:expr)*) => {
+        // SAFETY: the pointers and lengths are those of live borrows, and no two of them overlap.
+        told(unsafe { ffi::$export($self.input.as_ptr(), $self.input.len(), $self.row.as_mut_ptr(), ROW $(, $arg)*) })
+    };
+}
+
+macro_rules! scalar {
+    ($(#[$doc:meta])* $name:ident, $export:ident, $value:ty, $zero:expr) => {
+        $(#[$doc])*
+        #[inline]
+        pub fn $name(&mut self) -> Result<$value, Refusal> {
+            let mut value = $zero;
+            call!(self, $export, &mut value)?;
+            Ok(value)
+        }
+    };
+}
+
+impl<'a> TCompactInputProtocol<'a> {
+    /// A reader at the start of its input, with the default limits.
+    pub fn new(input: &'a [u8]) -> Self {
+        Self::with_config(input, TConfiguration::default())
+    }
+
+    /// A reader with limits of its own.
+    pub fn with_config(input: &'a [u8], limits: TConfiguration) -> Self {
+        TCompactInputProtocol { input, row: new_row(limits), ids: [0; IDS] }
+    }
+
+    /// The place of the next byte.
+    pub fn place(&self) -> usize {
+        self.row[0] as usize
+    }
+
+    /// What has not been read.
+    pub fn rest(&self) -> &'a [u8] {
+        &self.input[self.place()..]
+    }
+
+    fn kind(number: u8) -> TType {
+        // A type that was read has a number, by the call's contract.
+        TType::from_number(number).unwrap_or(TType::Stop)
+    }
+
+    /// A message's header. Field ids start anew from it.
+    pub fn read_message_begin(&mut self) -> Result<TMessageIdentifier<'a>, Refusal> {
+        let (mut kind, mut sequence, mut start, mut end) = (0, 0, 0, 0);
+        call!(self, tagrumzil_read_message_begin, &mut kind, &mut sequence, &mut start, &mut end)?;
+        Ok(TMessageIdentifier {
+            name: text(&self.input[start..end]),
+            message_type: TMessageType::from_number(kind).unwrap_or(TMessageType::Call),
+            sequence_number: sequence,
+        })
+    }
+
+    /// Begins a struct: the last field id is put by.
+    #[inline]
+    pub fn read_struct_begin(&mut self) -> Result<(), Refusal> {
+        let ids = self.ids.as_mut_ptr();
+        call!(self, tagrumzil_read_struct_begin, ids, IDS)
+    }
+
+    /// Ends a struct: the last field id is the outer one again.
+    #[inline]
+    pub fn read_struct_end(&mut self) -> Result<(), Refusal> {
+        let ids = self.ids.as_ptr();
+        call!(self, tagrumzil_read_struct_end, ids, IDS)
+    }
+
+    /// A field's header. A bool field's value is handed out by [`read_bool`](Self::read_bool).
+    #[inline]
+    pub fn read_field_begin(&mut self) -> Result<TFieldIdentifier, Refusal> {
+        let (mut kind, mut id) = (0, 0);
+        call!(self, tagrumzil_read_field_begin, &mut kind, &mut id)?;
+        Ok(TFieldIdentifier { field_type: Self::kind(kind), id: if kind == 0 { None } else { Some(id) } })
+    }
+
+    scalar!(/// A bool: a bool field's value, or else an element.
+        read_bool, tagrumzil_read_bool, bool, false);
+    scalar!(/// A signed byte.
+        read_i8, tagrumzil_read_i8, i8, 0);
+    scalar!(/// An i16.
+        read_i16, tagrumzil_read_i16, i16, 0);
+    scalar!(/// An i32.
+        read_i32, tagrumzil_read_i32, i32, 0);
+    scalar!(/// An i64.
+        read_i64, tagrumzil_read_i64, i64, 0);
+    scalar!(/// A double's 64 bits, a NaN's too.
+        read_double_bits, tagrumzil_read_double, u64, 0);
+
+    /// A double.
+    #[inline]
+    pub fn read_double(&mut self) -> Result<f64, Refusal> {
+        Ok(f64::from_bits(self.read_double_bits()?))
+    }
+
+    /// A uuid's 16 bytes.
+    pub fn read_uuid(&mut self) -> Result<[u8; 16], Refusal> {
+        let (mut start, mut end) = (0, 0);
+        call!(self, tagrumzil_read_uuid, &mut start, &mut end)?;
+        let mut uuid = [0; 16];
+        uuid.copy_from_slice(&self.input[start..end]);
+        Ok(uuid)
+    }
+
+    /// A binary: its part of the input.
+    pub fn read_bytes(&mut self) -> Result<&'a [u8], Refusal> {
+        let (mut start, mut end) = (0, 0);
+        call!(self, tagrumzil_read_bytes, &mut start, &mut end)?;
+        Ok(&self.input[start..end])
+    }
+
+    /// A string: its part of the input, which is UTF-8.
+    pub fn read_string(&mut self) -> Result<&'a str, Refusal> {
+        let (mut start, mut end) = (0, 0);
+        call!(self, tagrumzil_read_string, &mut start, &mut end)?;
+        Ok(text(&self.input[start..end]))
+    }
+
+    /// A list's header.
+    pub fn read_list_begin(&mut self) -> Result<TListIdentifier, Refusal> {
+        let (mut kind, mut count) = (0, 0);
+        call!(self, tagrumzil_read_list_begin, &mut kind, &mut count)?;
+        Ok(TListIdentifier { element_type: Self::kind(kind), size: count as i32 })
+    }
+
+    /// A set's header.
+    pub fn read_set_begin(&mut self) -> Result<TListIdentifier, Refusal> {
+        let (mut kind, mut count) = (0, 0);
+        call!(self, tagrumzil_read_set_begin, &mut kind, &mut count)?;
+        Ok(TListIdentifier { element_type: Self::kind(kind), size: count as i32 })
+    }
+
+    /// A map's header.
+    pub fn read_map_begin(&mut self) -> Result<TMapIdentifier, Refusal> {
+        let (mut key, mut value, mut count) = (0, 0, 0);
+        call!(self, tagrumzil_read_map_begin, &mut key, &mut value, &mut count)?;
+        let types = |kind| if count == 0 { None } else { Some(Self::kind(kind)) };
+        Ok(TMapIdentifier { key_type: types(key), value_type: types(value), size: count as i32 })
+    }
+
+    /// Passes over one value of a type, whatever stands in it.
+    #[inline]
+    pub fn skip(&mut self, field_type: TType) -> Result<(), Refusal> {
+        call!(self, tagrumzil_skip, field_type as u8)
+    }
+}
+
+/// The bytes of a string that was read: UTF-8 by the call's contract, and checked again since a mistake here would be unsound.
+fn text(bytes: &[u8]) -> &str {
+    std::str::from_utf8(bytes).unwrap_or("")
+}
+
+/// Where one value of a type that starts at a place ends, under the default limits.
+pub fn skip(input: &[u8], field_type: TType) -> Result<usize, Refusal> {
+    let mut reader = TCompactInputProtocol::new(input);
+    reader.skip(field_type)?;
+    Ok(reader.place())
+}

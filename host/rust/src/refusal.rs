@@ -1,0 +1,69 @@
+use std::fmt;
+
+/// Why a call was refused: a number of the scope's table, 1 to 16.
+#[derive(Clone, Copy, PartialEq, Eq, Hash)]
+pub struct Refusal(u8);
+
+const NAMES: [&str; 17] = [
+    "NONE", "END", "BAD VERSION", "BAD MESSAGE TYPE", "BAD TYPE", "BAD BOOL", "LONG VARINT", "FIELD ID", "SIZE LIMIT", "NEGATIVE SIZE", "DEPTH", "BAD UTF-8",
+    "OUT OF TURN", "SCRATCH", "NO ROOM", "BAD STATE", "BAD LIST",
+];
+
+impl Refusal {
+    /// A byte needed lies past the input.
+    pub const END: Refusal = Refusal(1);
+    /// The first message byte is not 0x82, or the version is not 1.
+    pub const BAD_VERSION: Refusal = Refusal(2);
+    /// A message type out of 1 to 4.
+    pub const BAD_MESSAGE_TYPE: Refusal = Refusal(3);
+    /// A code without a type, or Stop where a value's type is asked.
+    pub const BAD_TYPE: Refusal = Refusal(4);
+    /// An element bool that is not 0, 1 or 2.
+    pub const BAD_BOOL: Refusal = Refusal(5);
+    /// A varint of more bytes than its width allows.
+    pub const LONG_VARINT: Refusal = Refusal(6);
+    /// The last id plus the delta is over 32,767.
+    pub const FIELD_ID: Refusal = Refusal(7);
+    /// A length or a count over its limit.
+    pub const SIZE_LIMIT: Refusal = Refusal(8);
+    /// A count below 0.
+    pub const NEGATIVE_SIZE: Refusal = Refusal(9);
+    /// A struct or a container beyond the depth limit.
+    pub const DEPTH: Refusal = Refusal(10);
+    /// A string or a message name that is not UTF-8.
+    pub const BAD_UTF8: Refusal = Refusal(11);
+    /// A bool field waits for the bool call, or a struct is ended that was not begun.
+    pub const OUT_OF_TURN: Refusal = Refusal(12);
+    /// The buffer is too short for this call's bytes.
+    pub const NO_ROOM: Refusal = Refusal(14);
+    /// A limit out of its range, or a state that is none.
+    pub const BAD_STATE: Refusal = Refusal(15);
+
+    pub(crate) fn from_number(number: u8) -> Refusal {
+        Refusal(number)
+    }
+
+    /// Its number.
+    pub fn number(self) -> u8 {
+        self.0
+    }
+
+    /// Its name in the scope's table.
+    pub fn name(self) -> &'static str {
+        NAMES.get(self.0 as usize).copied().unwrap_or("UNKNOWN")
+    }
+}
+
+impl fmt::Display for Refusal {
+    fn fmt(&self, f: &mut fmt::Formatter<'_>) -> fmt::Result {
+        write!(f, "refused {}: {}", self.0, self.name())
+    }
+}
+
+impl fmt::Debug for Refusal {
+    fn fmt(&self, f: &mut fmt::Formatter<'_>) -> fmt::Result {
+        write!(f, "Refusal({}, {})", self.0, self.name())
+    }
+}
+
+impl std::error::Error for Refusal {}

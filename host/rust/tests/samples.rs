@@ -1,0 +1,139 @@
+//! The scope's sample bytes (table T), and what a refusal leaves behind, through the Rust crate.
+use tagrumzil::*;
+
+fn written(run: impl FnOnce(&mut TCompactOutputProtocol) -> Result<(), Refusal>) -> Vec<u8> {
+    let mut buffer = [0xAA; 64];
+    let mut out = TCompactOutputProtocol::new(&mut buffer);
+    run(&mut out).unwrap();
+    out.written().to_vec()
+}
+
+#[test]
+fn t1_to_t4_numbers() {
+    for (n, bytes) in [(0, vec![0]), (-1, vec![1]), (1, vec![2]), (i32::MIN, vec![0xFF, 0xFF, 0xFF, 0xFF, 0x0F])] {
+        assert_eq!(written(|o| o.write_i32(n)), bytes);
+        assert_eq!(TCompactInputProtocol::new(&bytes).read_i32(), Ok(n));
+    }
+    assert_eq!(written(|o| o.write_i16(-32768)), [0xFF, 0xFF, 0x03]);
+    assert_eq!(TCompactInputProtocol::new(&[0xFF, 0xFF, 0xFF, 0xFF, 0x7F]).read_i32(), Ok(i32::MIN));
+    assert_eq!(TCompactInputProtocol::new(&[0xFF; 5]).read_i32(), Err(Refusal::LONG_VARINT));
+    assert_eq!(TCompactInputProtocol::new(&[0xFF; 4]).read_i32(), Err(Refusal::END));
+    assert_eq!(TCompactInputProtocol::new(&[0x80, 0x80, 0x04]).read_i16(), Ok(-32768));
+}
+
+fn field(last: i16, bytes: &[u8]) -> Result<TFieldIdentifier, Refusal> {
+    // The last id is set by a field read before.
+    let input = [written(|o| o.write_field_begin(TType::I32, last)), bytes.to_vec()].concat();
+    let mut reader = TCompactInputProtocol::new(&input);
+    reader.read_field_begin()?;
+    reader.read_field_begin()
+}
+
+#[test]
+fn t5_to_t8_fields() {
+    assert_eq!(written(|o| o.write_field_begin(TType::I32, 14)), [0xE5]);
+    assert_eq!(written(|o| o.write_field_begin(TType::I32, 15)), [0x05, 0x1E]);
+    assert_eq!(TCompactInputProtocol::new(&[0xF5]).read_field_begin().unwrap().id, Some(15));
+    assert_eq!(field(32760, &[0x75]).unwrap().id, Some(32767));
+    assert_eq!(field(32760, &[0x85]), Err(Refusal::FIELD_ID));
+    let long = written(|o| o.write_field_begin(TType::I32, 32767).and(o.write_field_begin(TType::I32, -32768)));
+    assert_eq!(long[4..], [0x05, 0xFF, 0xFF, 0x03]);
+    assert_eq!(TCompactInputProtocol::new(&[0x10]).read_field_begin().unwrap().field_type, TType::Stop);
+}
+
+#[test]
+fn t9_to_t12_headers() {
+    assert_eq!(written(|o| o.write_list_begin(TType::I32, 14)), [0xE5]);
+    assert_eq!(written(|o| o.write_list_begin(TType::I32, 15)), [0xF5, 0x0F]);
+    assert_eq!(TCompactInputProtocol::new(&[0xF5, 0x80, 0x80, 0x80, 0x80, 0x08]).read_list_begin(), Err(Refusal::NEGATIVE_SIZE));
+    assert_eq!(TCompactInputProtocol::new(&[0xFF]).read_list_begin(), Err(Refusal::BAD_TYPE));
+    assert_eq!(written(|o| o.write_map_begin(TType::String, TType::I32, 0)), [0x00]);
+    assert_eq!(written(|o| o.write_map_begin(TType::String, TType::I32, 1)), [0x01, 0x85]);
+    let message = TMessageIdentifier { name: "t", message_type: TMessageType::Call, sequence_number: 1 };
+    let bytes = written(|o| o.write_message_begin(&message));
+    assert_eq!(bytes, [0x82, 0x21, 0x01, 0x01, 0x74]);
+    assert_eq!(TCompactInputProtocol::new(&bytes).read_message_begin(), Ok(message));
+}
+
+#[test]
+fn t13_bool_and_skip() {
+    let bytes = [0x11, 0x25, 0x01, 0x00];
+    let mut reader = TCompactInputProtocol::new(&bytes);
+    reader.read_struct_begin().unwrap();
+    assert_eq!(reader.read_field_begin(), Ok(TFieldIdentifier { field_type: TType::Bool, id: Some(1) }));
+    assert_eq!(reader.read_i32(), Err(Refusal::OUT_OF_TURN));
+    assert_eq!(reader.read_bool(), Ok(true));
+    assert_eq!(reader.read_field_begin(), Ok(TFieldIdentifier { field_type: TType::I32, id: Some(3) }));
+    assert_eq!(reader.read_i32(), Ok(-1));
+    assert_eq!(reader.read_field_begin().unwrap().field_type, TType::Stop);
+    reader.read_struct_end().unwrap();
+    assert_eq!((reader.place(), reader.rest()), (4, &[][..]));
+    assert_eq!(reader.read_struct_end(), Err(Refusal::OUT_OF_TURN));
+    assert_eq!(skip(&bytes, TType::Struct), Ok(4));
+    assert_eq!(skip(&bytes, TType::Stop), Err(Refusal::BAD_TYPE));
+}
+
+#[test]
+fn ids_of_outer_structs() {
+    let bytes = written(|o| {
+        o.write_struct_begin()?;
+        o.write_field_begin(TType::Struct, -7)?;
+        o.write_struct_begin()?;
+        o.write_field_begin(TType::Bool, 2)?;
+        o.write_bool(false)?;
+        o.write_field_stop()?;
+        o.write_struct_end()?;
+        o.write_field_begin(TType::I08, -6)?;
+        o.write_i8(-1)?;
+        o.write_field_stop()?;
+        o.write_struct_end()
+    });
+    assert_eq!(bytes, [0x0C, 0x0D, 0x22, 0x00, 0x13, 0xFF, 0x00]);
+    let mut r = TCompactInputProtocol::new(&bytes);
+    r.read_struct_begin().unwrap();
+    assert_eq!(r.read_field_begin().unwrap().id, Some(-7));
+    r.read_struct_begin().unwrap();
+    assert_eq!(r.read_field_begin().unwrap().id, Some(2));
+    assert_eq!(r.read_bool(), Ok(false));
+    assert_eq!(r.read_field_begin().unwrap().id, None);
+    r.read_struct_end().unwrap();
+    assert_eq!(r.read_field_begin().unwrap().id, Some(-6));
+}
+
+#[test]
+fn a_refusal_leaves_all_as_it_was() {
+    let mut buffer = [0xAA; 4];
+    let mut out = TCompactOutputProtocol::with_config(&mut buffer, TConfiguration { depth: 1, string: 3, container: 2 });
+    assert_eq!(out.write_double(1.0), Err(Refusal::NO_ROOM));
+    assert_eq!(out.write_string("four"), Err(Refusal::SIZE_LIMIT));
+    assert_eq!(out.write_list_begin(TType::I32, 3), Err(Refusal::SIZE_LIMIT));
+    assert_eq!(out.write_list_begin(TType::I32, -1), Err(Refusal::NEGATIVE_SIZE));
+    assert_eq!(out.write_list_begin(TType::Stop, 1), Err(Refusal::BAD_TYPE));
+    assert_eq!(out.write_field_begin(TType::Stop, 1), Err(Refusal::BAD_TYPE));
+    out.write_struct_begin().unwrap();
+    assert_eq!(out.write_struct_begin(), Err(Refusal::DEPTH));
+    assert_eq!(out.place(), 0);
+    out.write_bytes(b"abc").unwrap();
+    assert_eq!(buffer, [3, b'a', b'b', b'c']);
+
+    let limits = TConfiguration { depth: 65, string: 0, container: 0 };
+    let refusal = TCompactInputProtocol::with_config(&[0], limits).read_i8().unwrap_err();
+    assert_eq!((refusal, refusal.number(), refusal.to_string()), (Refusal::BAD_STATE, 15, "refused 15: BAD STATE".to_string()));
+}
+
+#[test]
+fn bare_numbers() {
+    let mut buffer = [0; 10];
+    for n in [0, 127, 128, u32::MAX as u64, u64::MAX] {
+        let end = write_varint(&mut buffer, 0, n).unwrap();
+        assert_eq!((varint_len(n), read_varint64(&buffer, 0)), (end, Ok((n, end))));
+    }
+    assert_eq!(write_varint(&mut buffer, 9, 128), Err(Refusal::NO_ROOM));
+    assert_eq!(read_varint32(&[0x80, 0x01], 0), Ok((128, 2)));
+    assert_eq!(read_i16(&[0x80, 0x80, 0x04], 0), Ok((-32768, 3)));
+    assert_eq!(read_le64(&[1, 0, 0, 0, 0, 0, 0, 0x80], 0), Ok((0x8000_0000_0000_0001, 8)));
+    for n in [i32::MIN, -1, 0, i32::MAX] {
+        assert_eq!(zigzag_to_i32(i32_to_zigzag(n)), n);
+        assert_eq!(zigzag_to_i64(i64_to_zigzag(n as i64 * 3)), n as i64 * 3);
+    }
+}

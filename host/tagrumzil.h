@@ -1,0 +1,147 @@
+/* Thrift's compact protocol: a reader, a writer and skip over lent memory, each function proved to meet its contract.
+ *
+ * Link with target/staticlib/libhost.a, which `rt staticlib host` makes. It needs memcpy and memset, and nothing else.
+ *
+ * Every function answers 0, or the number of a refusal (the enum below). A refused call changes nothing that was lent to it, so it may be made again.
+ * An input or a buffer is a pointer and a length; any pointer will do with length 0. What a call writes through its pointers (value, kind, ..) is
+ * written only where it answers 0, and the pointers must not be null. No two of the things lent to one call may overlap, a shared input apart.
+ *
+ * THE STATE of a reader or a writer is a row of TAGRUMZIL_ROW numbers, lent to each call:
+ *   row[0]  the place of the next byte in the input or buffer
+ *   row[1]  the last field id, as its zigzag number (0 as 0, -1 as 1, 1 as 2 ..), below 65536
+ *   row[2]  how many structs are open
+ *   row[3]  what waits. Reader: 0 nothing, 1 a bool field's true, 2 its false. Writer: 0 nothing, or 1 more than the zigzag number of the id of the bool field
+ *           whose header is to be written with its value
+ *   row[4]  the limit on depth, 0 to 64
+ *   row[5]  the limit on the length of a string or binary, 0 to 2147483647
+ *   row[6]  the limit on the count of a container, 0 to 2147483647
+ * A new one has zeros and its limits (tagrumzil_row below makes it). The ids of the structs around stand in a row of TAGRUMZIL_IDS numbers of their own, which
+ * only the struct calls take. A row of another length, or with a number out of these ranges, holds no state: TAGRUMZIL_BAD_STATE.
+ *
+ * Types go by number: 0 stop, 1 bool, 3 i8, 4 i16, 5 i32, 6 i64, 7 double, 8 string or binary, 9 list, 10 set, 11 map, 12 struct, 13 uuid. Any other number
+ * is TAGRUMZIL_BAD_TYPE. Messages: 1 call, 2 reply, 3 exception, 4 oneway; any other is TAGRUMZIL_BAD_MESSAGE_TYPE.
+ */
+#ifndef TAGRUMZIL_H
+#define TAGRUMZIL_H
+
+#include <stdbool.h>
+#include <stddef.h>
+#include <stdint.h>
+
+#ifdef __cplusplus
+extern "C" {
+#endif
+
+enum { TAGRUMZIL_ROW = 7, TAGRUMZIL_IDS = 64 };
+
+enum {
+    TAGRUMZIL_END = 1,              /* a byte needed lies past the input */
+    TAGRUMZIL_BAD_VERSION = 2,      /* the first message byte is not 0x82, or the version is not 1 */
+    TAGRUMZIL_BAD_MESSAGE_TYPE = 3, /* a message type out of 1 to 4 */
+    TAGRUMZIL_BAD_TYPE = 4,         /* a code without a type; stop where a value's type is asked */
+    TAGRUMZIL_BAD_BOOL = 5,         /* an element bool is not 0, 1 or 2 */
+    TAGRUMZIL_LONG_VARINT = 6,      /* a varint of more bytes than its width allows */
+    TAGRUMZIL_FIELD_ID = 7,         /* the last id plus the delta is over 32767 */
+    TAGRUMZIL_SIZE_LIMIT = 8,       /* a length or count over its limit */
+    TAGRUMZIL_NEGATIVE_SIZE = 9,    /* a count below 0 */
+    TAGRUMZIL_DEPTH = 10,           /* a struct or a container beyond the depth limit */
+    TAGRUMZIL_BAD_UTF8 = 11,        /* a string or a message name that is not UTF-8 */
+    TAGRUMZIL_OUT_OF_TURN = 12,     /* a bool waits for the bool call; or a struct is ended that was not begun */
+    TAGRUMZIL_NO_ROOM = 14,         /* the buffer is too short for this call's bytes */
+    TAGRUMZIL_BAD_STATE = 15        /* the rows hold no state; a limit out of its range; a place past the end; a depth over its limit */
+};
+
+/* A new state under these limits. */
+static inline void tagrumzil_row(uint64_t row[TAGRUMZIL_ROW], uint64_t depth, uint64_t string, uint64_t container)
+{
+    row[0] = row[1] = row[2] = row[3] = 0;
+    row[4] = depth;
+    row[5] = string;
+    row[6] = container;
+}
+
+/* ---- Numbers, which need no state. `*end` is the place behind what was read or written. */
+
+/* A varint of 32 bits, and of 64, at a place. Longer forms than needed are read; bits past the width are dropped. END, LONG_VARINT. */
+uint8_t tagrumzil_varint32(const uint8_t *s, size_t n, size_t at, uint32_t *value, size_t *end);
+uint8_t tagrumzil_varint64(const uint8_t *s, size_t n, size_t at, uint64_t *value, size_t *end);
+/* An i16: the low 16 bits of a 32-bit zigzag number. */
+uint8_t tagrumzil_i16(const uint8_t *s, size_t n, size_t at, int16_t *value, size_t *end);
+/* The bits of eight bytes, lowest first. */
+uint8_t tagrumzil_le64(const uint8_t *s, size_t n, size_t at, uint64_t *value, size_t *end);
+/* Writes a number in the fewest bytes. NO_ROOM. */
+uint8_t tagrumzil_put_varint(uint8_t *buf, size_t n, size_t at, uint64_t value, size_t *end);
+/* How many bytes a number takes, 1 to 10. */
+size_t tagrumzil_varint_len(uint64_t value);
+/* Zigzag, both ways. */
+int32_t tagrumzil_zigzag_to_i32(uint32_t value);
+int64_t tagrumzil_zigzag_to_i64(uint64_t value);
+uint32_t tagrumzil_i32_to_zigzag(int32_t value);
+uint64_t tagrumzil_i64_to_zigzag(int64_t value);
+
+/* ---- The reader. (s, n) is the input, (row, m) the state. */
+
+/* A message's header: its type, its sequence number, and where its name, which is UTF-8, starts and ends in the input. The last id is 0 from then on. */
+uint8_t tagrumzil_read_message_begin(const uint8_t *s, size_t n, uint64_t *row, size_t m, uint8_t *kind, int32_t *sequence, size_t *start, size_t *end);
+/* Begins a struct: the last id is put by, and is 0. DEPTH. */
+uint8_t tagrumzil_read_struct_begin(const uint8_t *s, size_t n, uint64_t *row, size_t m, int16_t *ids, size_t k);
+/* Ends a struct: the last id is the outer one again. OUT_OF_TURN where none is open. */
+uint8_t tagrumzil_read_struct_end(const uint8_t *s, size_t n, uint64_t *row, size_t m, const int16_t *ids, size_t k);
+/* A field's header. The struct's end has type 0, and then `*id` is left as it is. A bool field's value waits for tagrumzil_read_bool. */
+uint8_t tagrumzil_read_field_begin(const uint8_t *s, size_t n, uint64_t *row, size_t m, uint8_t *kind, int16_t *id);
+/* A bool: the one that waits, for no byte, or else an element. */
+uint8_t tagrumzil_read_bool(const uint8_t *s, size_t n, uint64_t *row, size_t m, bool *value);
+uint8_t tagrumzil_read_i8(const uint8_t *s, size_t n, uint64_t *row, size_t m, int8_t *value);
+uint8_t tagrumzil_read_i16(const uint8_t *s, size_t n, uint64_t *row, size_t m, int16_t *value);
+uint8_t tagrumzil_read_i32(const uint8_t *s, size_t n, uint64_t *row, size_t m, int32_t *value);
+uint8_t tagrumzil_read_i64(const uint8_t *s, size_t n, uint64_t *row, size_t m, int64_t *value);
+/* A double, as its 64 bits, so that any bits are kept. */
+uint8_t tagrumzil_read_double(const uint8_t *s, size_t n, uint64_t *row, size_t m, uint64_t *bits);
+/* A uuid, a binary, a string (which is UTF-8): where its bytes start and end in the input. */
+uint8_t tagrumzil_read_uuid(const uint8_t *s, size_t n, uint64_t *row, size_t m, size_t *start, size_t *end);
+uint8_t tagrumzil_read_bytes(const uint8_t *s, size_t n, uint64_t *row, size_t m, size_t *start, size_t *end);
+uint8_t tagrumzil_read_string(const uint8_t *s, size_t n, uint64_t *row, size_t m, size_t *start, size_t *end);
+/* A list's or a set's header: its elements' type, and how many there are. */
+uint8_t tagrumzil_read_list_begin(const uint8_t *s, size_t n, uint64_t *row, size_t m, uint8_t *kind, uint32_t *count);
+uint8_t tagrumzil_read_set_begin(const uint8_t *s, size_t n, uint64_t *row, size_t m, uint8_t *kind, uint32_t *count);
+/* A map's header: its keys' and values' types, both 0 in an empty map, and how many pairs there are. */
+uint8_t tagrumzil_read_map_begin(const uint8_t *s, size_t n, uint64_t *row, size_t m, uint8_t *key, uint8_t *value, uint32_t *count);
+/* Passes over one value of a type. It succeeds exactly on a well-formed value within the limits. A bool that waits is taken by a skip of bool. */
+uint8_t tagrumzil_skip(const uint8_t *s, size_t n, uint64_t *row, size_t m, uint8_t kind);
+
+/* ---- The writer. (buf, n) is the buffer, (row, m) the state. A refused call has written nothing. */
+
+/* A message's header. The name is UTF-8 and within the limit on strings. */
+uint8_t tagrumzil_write_message_begin(uint8_t *buf, size_t n, uint64_t *row, size_t m, uint8_t kind, int32_t sequence, const uint8_t *name, size_t k);
+/* Begins a struct: the last id is put by, and is 0. No byte is written. */
+uint8_t tagrumzil_write_struct_begin(uint8_t *buf, size_t n, uint64_t *row, size_t m, int16_t *ids, size_t k);
+/* Ends a struct: the last id is the outer one again. No byte is written: tagrumzil_write_field_stop comes before it. */
+uint8_t tagrumzil_write_struct_end(uint8_t *buf, size_t n, uint64_t *row, size_t m, const int16_t *ids, size_t k);
+/* A field's header. A bool field's is written by tagrumzil_write_bool. Type 0 is BAD_TYPE. */
+uint8_t tagrumzil_write_field_begin(uint8_t *buf, size_t n, uint64_t *row, size_t m, uint8_t kind, int16_t id);
+/* The byte that ends a struct's fields. */
+uint8_t tagrumzil_write_field_stop(uint8_t *buf, size_t n, uint64_t *row, size_t m);
+/* A bool: the header of the bool field that waits, or else an element. */
+uint8_t tagrumzil_write_bool(uint8_t *buf, size_t n, uint64_t *row, size_t m, bool truth);
+uint8_t tagrumzil_write_i8(uint8_t *buf, size_t n, uint64_t *row, size_t m, int8_t value);
+uint8_t tagrumzil_write_i16(uint8_t *buf, size_t n, uint64_t *row, size_t m, int16_t value);
+uint8_t tagrumzil_write_i32(uint8_t *buf, size_t n, uint64_t *row, size_t m, int32_t value);
+uint8_t tagrumzil_write_i64(uint8_t *buf, size_t n, uint64_t *row, size_t m, int64_t value);
+/* A double by its 64 bits. */
+uint8_t tagrumzil_write_double(uint8_t *buf, size_t n, uint64_t *row, size_t m, uint64_t bits);
+/* A uuid: 16 bytes at the pointer. */
+uint8_t tagrumzil_write_uuid(uint8_t *buf, size_t n, uint64_t *row, size_t m, const uint8_t uuid[16]);
+/* A binary, and a string, whose bytes must be UTF-8. SIZE_LIMIT, BAD_UTF8. */
+uint8_t tagrumzil_write_bytes(uint8_t *buf, size_t n, uint64_t *row, size_t m, const uint8_t *blob, size_t k);
+uint8_t tagrumzil_write_string(uint8_t *buf, size_t n, uint64_t *row, size_t m, const uint8_t *text, size_t k);
+/* A list's or a set's header. NEGATIVE_SIZE, SIZE_LIMIT; type 0 with elements is BAD_TYPE. */
+uint8_t tagrumzil_write_list_begin(uint8_t *buf, size_t n, uint64_t *row, size_t m, uint8_t kind, int32_t count);
+uint8_t tagrumzil_write_set_begin(uint8_t *buf, size_t n, uint64_t *row, size_t m, uint8_t kind, int32_t count);
+/* A map's header. An empty map has no types: the numbers given for them have no say. */
+uint8_t tagrumzil_write_map_begin(uint8_t *buf, size_t n, uint64_t *row, size_t m, uint8_t key, uint8_t value, int32_t count);
+
+#ifdef __cplusplus
+}
+#endif
+
+#endif
