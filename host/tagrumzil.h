@@ -1,4 +1,4 @@
-/* Thrift's compact protocol: a reader, a writer and skip over lent memory, each function proved to meet its contract.
+/* Thrift's compact protocol: a reader, a writer, skip and a field picker over lent memory, each function proved to meet its contract.
  *
  * Link with target/staticlib/libhost.a, which `rt staticlib host` makes. It needs memcpy and memset, and nothing else.
  *
@@ -48,7 +48,8 @@ enum {
     TAGRUMZIL_BAD_UTF8 = 11,        /* a string or a message name that is not UTF-8 */
     TAGRUMZIL_OUT_OF_TURN = 12,     /* a bool waits for the bool call; or a struct is ended that was not begun */
     TAGRUMZIL_NO_ROOM = 14,         /* the buffer is too short for this call's bytes */
-    TAGRUMZIL_BAD_STATE = 15        /* the rows hold no state; a limit out of its range; a place past the end; a depth over its limit */
+    TAGRUMZIL_BAD_STATE = 15,       /* the rows hold no state; a limit out of its range; a place past the end; a depth over its limit */
+    TAGRUMZIL_BAD_LIST = 16         /* wanted ids and types differ in number, over 64 of them, an id twice, or a type that no field can have */
 };
 
 /* A new state under these limits. */
@@ -108,6 +109,12 @@ uint8_t tagrumzil_read_set_begin(const uint8_t *s, size_t n, uint64_t *row, size
 uint8_t tagrumzil_read_map_begin(const uint8_t *s, size_t n, uint64_t *row, size_t m, uint8_t *key, uint8_t *value, uint32_t *count);
 /* Passes over one value of a type. It succeeds exactly on a well-formed value within the limits. A bool that waits is taken by a skip of bool. */
 uint8_t tagrumzil_skip(const uint8_t *s, size_t n, uint64_t *row, size_t m, uint8_t kind);
+/* The picker, where a struct starts: for each of the k wanted field ids, with its type's number in (kinds, j), three numbers in (found, i): what was found
+ * (TAGRUMZIL_ABSENT ..), and for TAGRUMZIL_HERE where the value's bytes start and end. Of the fields directly in the struct the last of the id and type is
+ * told. The reader moves behind the struct, as a skip of it does. At most 64 ids, none twice, as many types, none of them stop: else TAGRUMZIL_BAD_LIST.
+ * i is at least 3 times k, else TAGRUMZIL_NO_ROOM; numbers behind the rows stay as they are. */
+enum { TAGRUMZIL_ABSENT = 0, TAGRUMZIL_WRONG_TYPE = 1, TAGRUMZIL_HERE = 2, TAGRUMZIL_FALSE = 3, TAGRUMZIL_TRUE = 4 };
+uint8_t tagrumzil_pick(const uint8_t *s, size_t n, uint64_t *row, size_t m, const int16_t *wanted, size_t k, const uint8_t *kinds, size_t j, size_t *found, size_t i);
 
 /* ---- The writer. (buf, n) is the buffer, (row, m) the state. A refused call has written nothing. */
 

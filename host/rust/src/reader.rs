@@ -156,6 +156,47 @@ impl<'a> TCompactInputProtocol<'a> {
     pub fn skip(&mut self, field_type: TType) -> Result<(), Refusal> {
         call!(self, tagrumzil_skip, field_type as u8)
     }
+
+    /// At a struct's start: for each wanted field id, with its type beside it, the last field of that id and type directly in the struct, in `found`
+    /// at the id's own number. The reader moves behind the struct, as [`skip`](Self::skip) of it does. At most 64 ids, none twice.
+    pub fn pick(&mut self, ids: &[i16], types: &[TType], found: &mut [Picked<'a>]) -> Result<(), Refusal> {
+        // One more than can be wanted shows that there are too many.
+        let mut kinds = [0; MOST + 1];
+        let mut rows = [0; 3 * MOST];
+        for (kind, field_type) in kinds.iter_mut().zip(types) {
+            *kind = *field_type as u8;
+        }
+        let listed = types.len().min(MOST + 1);
+        let lent = 3 * found.len().min(MOST);
+        call!(self, tagrumzil_pick, ids.as_ptr(), ids.len(), kinds.as_ptr(), listed, rows.as_mut_ptr(), lent)?;
+        for (picked, row) in found.iter_mut().zip(rows.chunks_exact(3)).take(ids.len()) {
+            *picked = match row[0] {
+                1 => Picked::WrongType,
+                2 => Picked::Here(&self.input[row[1]..row[2]]),
+                3 => Picked::Bool(false),
+                4 => Picked::Bool(true),
+                _ => Picked::Absent,
+            };
+        }
+        Ok(())
+    }
+}
+
+/// The most ids that may be wanted at once.
+const MOST: usize = 64;
+
+/// What a struct says of a wanted field id.
+#[derive(Clone, Copy, Debug, Default, PartialEq, Eq)]
+pub enum Picked<'a> {
+    /// No field of the id.
+    #[default]
+    Absent,
+    /// Fields of the id, but none of the type.
+    WrongType,
+    /// The bytes of the value, to be read by a reader of their own.
+    Here(&'a [u8]),
+    /// A bool field's value.
+    Bool(bool),
 }
 
 /// The bytes of a string that was read: UTF-8 by the call's contract, and checked again since a mistake here would be unsound.

@@ -38,6 +38,8 @@ impl Refusal {
     pub const NO_ROOM: Refusal = Refusal(14);
     /// A limit out of its range, or a state that is none.
     pub const BAD_STATE: Refusal = Refusal(15);
+    /// Wanted ids and types that differ in number, over 64 of them, an id twice, or a type that no field can have.
+    pub const BAD_LIST: Refusal = Refusal(16);
 
     pub(crate) fn from_number(number: u8) -> Refusal {
         Refusal(number)

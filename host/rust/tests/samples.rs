@@ -137,3 +137,40 @@ fn bare_numbers() {
         assert_eq!(zigzag_to_i64(i64_to_zigzag(n as i64 * 3)), n as i64 * 3);
     }
 }
+
+const TWO: [u8; 4] = [0x11, 0x25, 0x01, 0x00];
+const THREE: [u8; 13] = [0x11, 0x17, 0, 0, 0, 0, 0, 0, 0xF0, 0x3F, 0x15, 0x01, 0x00];
+
+fn picked<'a>(bytes: &'a [u8], ids: &[i16], types: &[TType]) -> (Result<(), Refusal>, [Picked<'a>; 4], usize) {
+    let mut reader = TCompactInputProtocol::new(bytes);
+    let mut found = [Picked::Bool(true); 4];
+    let answer = reader.pick(ids, types, &mut found);
+    (answer, found, reader.place())
+}
+
+#[test]
+fn t13_picking() {
+    let untouched = Picked::Bool(true);
+    assert_eq!(picked(&TWO, &[3], &[TType::I32]), (Ok(()), [Picked::Here(&TWO[2..3]), untouched, untouched, untouched], 4));
+    assert_eq!(picked(&THREE, &[3], &[TType::I32]), (Ok(()), [Picked::Here(&THREE[11..12]), untouched, untouched, untouched], 13));
+    let (answer, found, end) = picked(&THREE, &[3, 1, 2, 4], &[TType::I64, TType::Bool, TType::Double, TType::I32]);
+    assert_eq!((answer, end), (Ok(()), 13));
+    assert_eq!(found, [Picked::WrongType, Picked::Bool(true), Picked::Here(&THREE[2..10]), Picked::Absent]);
+}
+
+#[test]
+fn refused_picks_leave_all() {
+    let untouched = ([Picked::Bool(true); 4], 0);
+    let refused = |bytes: &[u8], ids: &[i16], types: &[TType], why| {
+        let (answer, found, place) = picked(bytes, ids, types);
+        assert_eq!((answer, (found, place)), (Err(why), untouched));
+    };
+    refused(&TWO[..3], &[3], &[TType::I32], Refusal::END);
+    refused(&TWO, &[3, 3], &[TType::I32; 2], Refusal::BAD_LIST);
+    refused(&TWO, &[3], &[TType::Stop], Refusal::BAD_LIST);
+    refused(&TWO, &[3], &[], Refusal::BAD_LIST);
+    refused(&TWO, &[], &[TType::I32; 65], Refusal::BAD_LIST);
+    refused(&TWO, &[0; 65], &[TType::I32; 65], Refusal::BAD_LIST);
+    refused(&TWO, &[1, 2, 3, 4, 5], &[TType::I32; 5], Refusal::NO_ROOM);
+    assert_eq!(picked(&TWO, &[], &[]).0, Ok(()));
+}
