@@ -105,6 +105,33 @@ fn crate_reads(s: &[u8]) -> thrift::Result<f64> {
     Ok(sum)
 }
 
+const WANTED: [i16; 3] = [1, 500, 1000];
+
+fn port_picks(s: &[u8]) -> Result<[port::Picked<'_>; 3], port::Refusal> {
+    let mut found = [port::Picked::Absent; 3];
+    port::TCompactInputProtocol::new(s).pick(&WANTED, &[port::TType::I32; 3], &mut found)?;
+    Ok(found)
+}
+
+/// The crate has no picker: its reader's calls, field by field, with the wanted values kept.
+fn crate_picks(s: &[u8]) -> thrift::Result<[Option<i32>; 3]> {
+    let mut p = TCompactInputProtocol::new(s);
+    let mut found = [None; 3];
+    p.read_struct_begin()?;
+    loop {
+        let f = p.read_field_begin()?;
+        if f.field_type == TType::Stop {
+            break;
+        }
+        match WANTED.iter().position(|id| f.id == Some(*id)) {
+            Some(i) if f.field_type == TType::I32 => found[i] = Some(p.read_i32()?),
+            _ => p.skip(f.field_type)?,
+        }
+    }
+    p.read_struct_end()?;
+    Ok(found)
+}
+
 /// The best of the passes, in nanoseconds.
 fn best(mut run: impl FnMut()) -> f64 {
     (0..400).map(|_| { let t = Instant::now(); run(); t.elapsed().as_nanos() as f64 }).fold(f64::MAX, f64::min)
@@ -133,6 +160,8 @@ fn main() {
         let b = best(|| drop(black_box(port::skip(black_box(&s), p))));
         line(what, a, b);
     }
+    let many = struct_of_i32();
+    line("picking 3 ids of the struct of 1000 fields", best(|| drop(black_box(crate_picks(black_box(&many))))), best(|| drop(black_box(port_picks(black_box(&many))))));
     line("reading the trial call by call", best(|| drop(black_box(crate_reads(black_box(&trial))))), best(|| drop(black_box(port_reads(black_box(&trial))))));
     line("writing it", best(|| drop(black_box(crate_writes(&mut theirs)))), best(|| drop(black_box(port_writes(&mut buffer)))));
 }

@@ -252,6 +252,7 @@ fn skip_difference(s: &[u8], at: usize, limits: port::TConfiguration, t: usize, 
 #[derive(Default)]
 struct Tally {
     read: [u64; 17],
+    picked: u64,
     wrote: BTreeMap<&'static str, u64>,
     differences: BTreeMap<&'static str, u64>,
     refusals: [u64; 17],
@@ -613,6 +614,67 @@ fn writes(t: &mut Tally, ws: &[W], limits: port::TConfiguration, room: usize) ->
     Some(bytes)
 }
 
+// ------------------------------------------------------------------ the picker
+
+/// The crate's own reading of a struct, field by field, with the last of each wanted id and type kept, and where it ends.
+fn crate_picks<'a>(s: &'a [u8], limits: port::TConfiguration, ids: &[i16], kinds: &[usize]) -> Result<(Vec<port::Picked<'a>>, usize), Error> {
+    let at = Cell::new(0);
+    let mut p = TCompactInputProtocol::with_config(Tap(s, &at), config(limits));
+    let mut found = vec![port::Picked::Absent; ids.len()];
+    p.read_struct_begin()?;
+    loop {
+        let f = p.read_field_begin()?;
+        if f.field_type == TType::Stop {
+            break;
+        }
+        let start = at.get();
+        let value = if f.field_type == TType::Bool {
+            port::Picked::Bool(p.read_bool()?)
+        } else {
+            p.skip(f.field_type)?;
+            port::Picked::Here(&s[start..at.get()])
+        };
+        for (i, row) in found.iter_mut().enumerate().filter(|(i, _)| f.id == Some(ids[*i])) {
+            if TYPES[kinds[i]].1 == f.field_type {
+                *row = value;
+            } else if *row == port::Picked::Absent {
+                *row = port::Picked::WrongType;
+            }
+        }
+    }
+    p.read_struct_end()?;
+    Ok((found, at.get()))
+}
+
+/// A pick of some ids, most of them of the struct's own. It accepts and refuses as the port's skip does, which is compared with the crate's apart.
+fn picks(t: &mut Tally, r: &mut Rng, s: &[u8], limits: port::TConfiguration) {
+    let (mut ids, mut kinds) = (Vec::new(), Vec::new());
+    for _ in 0..r.below(6) {
+        let id = if r.below(8) == 0 { r.next() as i16 } else { r.below(20) as i16 - 2 };
+        if !ids.contains(&id) {
+            ids.push(id);
+            kinds.push(1 + r.below(12) as usize);
+        }
+    }
+    let types: Vec<_> = kinds.iter().map(|k| TYPES[*k].0).collect();
+    let mut found = [port::Picked::Bool(true); 8];
+    let mut ours = port::TCompactInputProtocol::with_config(s, limits);
+    let answer = ours.pick(&ids, &types, &mut found).map_err(|e| e.number());
+    let mut skips = port::TCompactInputProtocol::with_config(s, limits);
+    let skipped = skips.skip(port::TType::Struct).map_err(|e| e.number());
+    t.picked += 1;
+    if (answer, ours.place()) != (skipped, skips.place()) {
+        t.fail(format!("pick {answer:?} where skip is {skipped:?}, limits {limits:?} on {s:02x?}"));
+    } else if found[if answer.is_ok() { ids.len() } else { 0 }..].iter().any(|x| *x != port::Picked::Bool(true)) {
+        t.fail(format!("pick wrote what it should not, on {s:02x?}"));
+    } else if answer.is_ok() {
+        match crate_picks(s, limits, &ids, &kinds) {
+            Ok(theirs) if theirs != (found[..ids.len()].to_vec(), ours.place()) => t.fail(format!("pick {ids:?} {types:?} on {s:02x?}: crate {theirs:?}, port {found:?}")),
+            _ => (),
+        }
+    }
+}
+
 // ------------------------------------------------------------------ the run
 
 const WIDE: port::TConfiguration = port::TConfiguration { depth: 64, string: i32::MAX as u32, container: i32::MAX as u32 };
@@ -694,7 +756,7 @@ fn main() {
         }
     }
     // random bytes, and whole messages, by each side, and damaged copies of them
-    let total = |t: &Tally| t.read.iter().sum::<u64>() + t.wrote.values().sum::<u64>();
+    let total = |t: &Tally| t.read.iter().sum::<u64>() + t.wrote.values().sum::<u64>() + t.picked;
     while total(&t) < millions * 1_000_000 {
         let s: Vec<u8> = (0..r.below(12)).map(|_| if r.below(3) == 0 { r.pick(&[0, 1, 2, 0x7F, 0x80, 0xFF, 0x82, 0x21, 0x15, 0x1C, 0x19]) } else { r.next() as u8 }).collect();
         let limits = if r.below(2) == 0 { WIDE } else { some_limits(&mut r) };
@@ -716,6 +778,22 @@ fn main() {
         run(&mut t, &bytes, limits);
         let other = some_limits(&mut r);
         run(&mut t, &bytes, other);
+        // the struct by itself, picked, and copies of it that are damaged
+        if kind == 11 {
+            let (mut w, mut c) = (Vec::new(), Vec::new());
+            calls(&value, &mut w, &mut c);
+            if let Some(own) = writes(&mut t, &w, WIDE, 1 << 16) {
+                for i in 0..12 {
+                    let mut s = own.clone();
+                    if i > 5 {
+                        let j = r.below(s.len() as u64) as usize;
+                        s[j] ^= 1 << r.below(8);
+                    }
+                    let limits = if i % 3 == 0 { some_limits(&mut r) } else { WIDE };
+                    picks(&mut t, &mut r, &s, limits);
+                }
+            }
+        }
         for _ in 0..4 {
             let mut bad = bytes.clone();
             match r.below(3) {
@@ -792,6 +870,7 @@ fn main() {
     for (n, k) in &t.wrote {
         println!("write {n}: {k}");
     }
+    println!("pick: {}", t.picked);
     for (n, k) in t.refusals.iter().enumerate().filter(|x| *x.1 > 0) {
         println!("refused {n}: {k}");
     }
