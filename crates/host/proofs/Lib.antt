@@ -2,3 +2,4 @@ pub mod Through
 pub mod Making
 pub mod Nesting
 pub mod Bared
+pub mod Whole
