@@ -4,10 +4,12 @@ use mathlib.Core.Path.{_≡_, refl, sym, ap, _∙_}
 use mathlib.Core.Bool.{Bool, true, false, cond}
 use mathlib.Core.List.{List, []}
 use Prim.Native.Nat.{ℕ}
+use borrow.Author.Tests.{ne-eqb}
 use lib.Dec.{eqb, leb}
 use lib.IntN.{ℤ}
 use lib.ListN.{length}
-use Rattle.types.specs.Refusals.{DEPTH, OUT-OF-TURN}
+use Rattle.types.specs.Limits.{inRange}
+use Rattle.types.specs.Refusals.{DEPTH, OUT-OF-TURN, BAD-STATE}
 use Rattle.numbers.specs.Varint.{Found, got, refused}
 use Rattle.heads.specs.Reader.{Reader, readAt}
 use Rattle.heads.specs.Heads.{Field, stop, bool, value, Message, int8, int16, int32, int64, double, uuid, binary, text, items, pairs, field, message}
@@ -23,6 +25,7 @@ use Rattle.numbers.specs.declared.Wrote.the-variants as W
 use Rattle.output.specs.State as O
 use Rattle.output.specs.Calls.{call, writes, leaves, settled, refusedBy, beginWrong, endWrong, structBeginCall, structEndCall}
 use Rattle.output.specs.declared.Written.{Written}
+use Rattle.rows.specs.Row.{noLimits, readerOf, writerOf}
 use Rattle.rows.specs.Structs.{savedRead, restoredRead, savedWrite, restoredWrite, beginWrites, endWrites}
 
 -- a state with other ids
@@ -121,3 +124,21 @@ module _ (buf : List ℕ) (st : O.State) (ids : List ℤ) where
   unfolding endWrites writes O.unsound O.inTurn endWrong
   end-writes-whole =
       ends-so (eqb (O.orElse (O.unsound (length buf) st) (O.inTurn st (endWrong st))) 0) (O.orElse (O.unsound (length buf) st) (O.inTurn st (endWrong st))) (wroteAt buf (st .place .0) [])
+
+-- A row that holds no state: of another length, or with a number out of its range. What stands for its state every call refuses, BAD STATE.
+pub no-reader : (len : ℕ) → I.gate len (I.fresh noLimits) ≡ BAD-STATE
+unfolding I.gate I.sound I.fresh inRange
+no-reader len = refl
+
+pub no-writer : (len : ℕ) → O.unsound len (O.begun noLimits) ≡ BAD-STATE
+unfolding O.unsound O.begun inRange
+no-writer len = refl
+
+module _ (row : List ℕ) (h : length row ≡ 7 → ⊥) where
+  pub no-reader-row : readerOf row ≡ I.fresh noLimits
+  unfolding readerOf
+  no-reader-row = rw (ne-eqb (length row) 7 h)
+
+  pub no-writer-row : writerOf row ≡ O.begun noLimits
+  unfolding writerOf
+  no-writer-row = rw (ne-eqb (length row) 7 h)
