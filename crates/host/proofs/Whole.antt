@@ -1,6 +1,6 @@
 -- A state in two rows is a whole state: the calls that take no ids answer the same whatever the ids are, and leave them; the struct calls do with their row of
 -- ids what they do with a state's own. Assumes nothing.
-use mathlib.Core.Path.{_≡_, refl, sym, ap, _∙_}
+use mathlib.Core.Path.{_≡_, refl, ap}
 use mathlib.Core.Bool.{Bool, true, false, cond}
 use mathlib.Core.List.{List, []}
 use Prim.Native.Nat.{ℕ}
@@ -12,10 +12,10 @@ use Rattle.types.specs.Limits.{inRange}
 use Rattle.types.specs.Refusals.{DEPTH, OUT-OF-TURN, BAD-STATE}
 use Rattle.numbers.specs.Varint.{Found, got, refused}
 use Rattle.heads.specs.Reader.{Reader, readAt}
-use Rattle.heads.specs.Heads.{Field, stop, bool, value, Message, int8, int16, int32, int64, double, uuid, binary, text, items, pairs, field, message}
+use Rattle.heads.specs.Heads.{Field, stop, bool, value, field, message}
 use Rattle.heads.specs.Answers.{place}
 use Rattle.input.specs.State as I
-use Rattle.input.specs.Outcome.{Outcome, calls, from, guarded, answers, declines, stays, begins, ends, anew, onField}
+use Rattle.input.specs.Outcome.{Outcome, calls, from, answers, declines, stays, begins, ends, anew, onField}
 use Rattle.input.specs.Answers.{asDone}
 use Rattle.input.specs.Calls.{structBegin, structEnd}
 use Rattle.input.specs.declared.ReadDone.{ReadDone}
@@ -23,7 +23,7 @@ use Rattle.numbers.specs.Answers.{wroteAt}
 use Rattle.numbers.specs.declared.Wrote.{Wrote}
 use Rattle.numbers.specs.declared.Wrote.the-variants as W
 use Rattle.output.specs.State as O
-use Rattle.output.specs.Calls.{call, writes, leaves, settled, refusedBy, beginWrong, endWrong, structBeginCall, structEndCall}
+use Rattle.output.specs.Calls.{call, writes, leaves, settled, refusedBy, beginWrong, endWrong}
 use Rattle.output.specs.declared.Written.{Written}
 use Rattle.rows.specs.Row.{noLimits, readerOf, writerOf}
 use Rattle.rows.specs.Structs.{savedRead, restoredRead, savedWrite, restoredWrite, beginWrites, endWrites}
