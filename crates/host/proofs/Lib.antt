@@ -3,3 +3,4 @@ pub mod Making
 pub mod Nesting
 pub mod Bared
 pub mod Picked
+pub mod Whole

@@ -1,33 +1,15 @@
 -- What a writer's call leaves, for the state in the row. Assumes nothing.
-use mathlib.Core.Path.{_≡_, refl, sym, ap, subst, _∙_}
-use mathlib.Core.Bool.{Bool, true, false}
-use mathlib.Core.List.{List, []}
+use mathlib.Core.Path.{_≡_, ap, subst, _∙_}
+use mathlib.Core.Bool.{Bool}
+use mathlib.Core.List.{List}
 use Prim.Native.Nat.{ℕ}
 use borrow.Author.Needs.{sfits-of}
-use borrow.Author.Tests.{eq-eqb, ne-eqb}
-use lib.IntN.{ℤ, pos, negsuc}
-use lib.ListN.{length}
-use mir.Syntax.{w32}
-use mir.Val.{SFits, toZ, ofZ}
+use lib.IntN.{ℤ}
 use mir.Facts.{toZ-ofZ}
-use Rattle.types.specs.Codes.{typeByNumber, messageByNumber}
-use Rattle.types.specs.declared.FieldId.{FieldId}
-use Rattle.types.specs.declared.SeqNo.{SeqNo}
-use Rattle.types.specs.declared.TType.{TType}
-use Rattle.types.specs.declared.TType.the-variants as T
-use Rattle.types.specs.declared.TypeRead.{TypeRead}
-use Rattle.types.specs.declared.TypeRead.the-variants as R
-use Rattle.types.specs.declared.TMessageType.{TMessageType}
-use Rattle.types.specs.declared.MessageTypeRead.{MessageTypeRead}
-use Rattle.types.specs.declared.MessageTypeRead.the-variants as MR
-use Rattle.output.specs.State.{State, orElse, unsound, inTurn}
-use Rattle.output.specs.Calls.{Call, call, writes, leaves, refusedBy, written, stopCall, boolCall, i8Call, intCall, doubleCall, uuidCall, bytesCall, stringCall, messageCall, fieldCall, itemsCall, pairsCall}
-use Rattle.output.specs.declared.WriteAnswer.{WriteAnswer}
-use Rattle.output.specs.declared.WriteAnswer.the-variants as WA
+use Rattle.output.specs.State.{State}
+use Rattle.output.specs.Calls.{Call, writes, leaves, stopCall, boolCall, i8Call, intCall, doubleCall, uuidCall, bytesCall, stringCall}
 use Rattle.output.specs.declared.Written.{Written}
-use Rattle.output.proofs.Cases.{refusing, keeping, noting, untouched}
-use Rattle.rows.specs.Row.{writerOf, writerAfter}
-use Rattle.rows.specs.Writes.{numberWritten, Kept, Made, wrongCall, isNone, fieldBy, itemsBy, pairsOfTypes, pairsBy, messageBy}
+use Rattle.rows.specs.Writes.{Kept, Made, fieldBy, itemsBy, pairsBy, messageBy}
 
 -- what a call leaves, for the state in the row
 pub made-by : (row row′ buf buf′ : List ℕ) (n : ℕ) (st want : State) (c d : Call) (w : Written) → Kept row row′ n w → w ≡ writes buf st c → buf′ ≡ leaves buf st c → st ≡ want → c ≡ d → Made row row′ buf buf′ n want d

@@ -1,37 +1,21 @@
 -- Skip and the struct calls, at each of their returns. Assumes nothing.
-use mathlib.Core.Path.{_≡_, refl, sym, ap, subst, _∙_}
-use mathlib.Core.Bool.{Bool, true, false, cond}
-use mathlib.Core.List.{List, [], _∷_}
-use Prim.Native.Nat.{ℕ, zero, suc, _≤_, _<_}
-use native.Mathlib.Omega.{arith}
+use mathlib.Core.Path.{_≡_}
+use mathlib.Core.List.{List}
+use Prim.Native.Nat.{ℕ}
 use borrow.Author.Needs.{sfits-of}
-use borrow.Author.Tests.{eq-eqb, ne-eqb}
-use lib.Dec.{eqb}
 use lib.IntN.{ℤ, pos}
-use lib.ListN.{length, getD, set}
-use lib.Seq.{set-out}
+use lib.ListN.{getD, set}
 use mir.Facts.{toZ-ofZ}
-use Rattle.types.specs.Codes.{typeByNumber}
-use Rattle.types.specs.declared.TType.{TType}
-use Rattle.types.specs.declared.TypeRead.{TypeRead}
-use Rattle.types.specs.declared.TypeRead.the-variants as R
-use Rattle.types.specs.declared.TConfiguration.{TConfiguration}
 use Rattle.heads.specs.Answers.{idOf}
 use Rattle.input.specs.State as I
-use Rattle.input.specs.Answers.{numberDone}
 use Rattle.input.specs.Calls.{structBegin, structEnd}
-use Rattle.input.specs.declared.DoneAnswer.{DoneAnswer}
 use Rattle.input.specs.declared.DoneAnswer.the-variants as N
 use Rattle.input.specs.declared.ReadDone.{ReadDone}
 use Rattle.output.specs.State as O
-use Rattle.output.specs.declared.WriteAnswer.{WriteAnswer}
 use Rattle.output.specs.declared.WriteAnswer.the-variants as WA
 use Rattle.output.specs.declared.Written.{Written}
-use Rattle.skip.specs.Skip.{skipCall}
-use Rattle.rows.specs.Row.{noLimits, readerOf, writerOf, readerAfter, writerAfter}
-use Rattle.rows.specs.Reads.{ToldDone}
-use Rattle.rows.specs.Writes.{numberWritten, Kept}
-use Rattle.rows.specs.Structs.{skipBy, structReader, structWriter, beginWrites, beginLeaves, endWrites, endLeaves, BegunRead, EndedRead, BegunWrite, EndedWrite, lastWrite}
+use Rattle.rows.specs.Row.{readerOf, readerAfter, writerAfter}
+use Rattle.rows.specs.Structs.{skipBy, beginWrites, beginLeaves, endWrites, endLeaves, BegunRead, EndedRead, BegunWrite, EndedWrite, lastWrite}
 use Rattle.host.proofs.Through.{done-through}
 
 pub skip-row : (s row : List ℕ) (n : ℕ) (st : I.State) (read : ReadDone) → read ≡ skipBy s n st → st ≡ readerOf row → read ≡ skipBy s n (readerOf row)

@@ -1,44 +1,11 @@
 -- What was read is the call's answer for the state in the row. Assumes nothing.
-use mathlib.Core.Path.{_≡_, refl}
+use mathlib.Core.Path.{_≡_}
 use mathlib.Core.Bool.{Bool}
 use mathlib.Core.List.{List}
 use Prim.Native.Nat.{ℕ}
-use borrow.Author.Needs.{sfits-of}
 use lib.IntN.{ℤ}
-use mir.Facts.{toZ-ofZ}
-use Rattle.types.specs.Codes.{typeCode, messageCode}
-use Rattle.types.specs.declared.TType.{TType}
-use Rattle.types.specs.declared.TMessageType.{TMessageType}
-use Rattle.types.specs.declared.FieldId.{FieldId}
-use Rattle.types.specs.declared.SeqNo.{SeqNo}
-use Rattle.types.specs.declared.Place.{Place}
 use Rattle.input.specs.State as I
 use Rattle.input.specs.Calls.{readBool, readI8, readI16, readI32, readI64, readDouble, readUuid, readBytes, readString, readList, readSet, readMap, readField, readMessage}
-use Rattle.input.specs.Answers.{numberBool, numberI8, numberI16, numberI32, numberI64, numberDouble, numberPart, numberList, numberMap, numberField, numberMessage, numberDone}
-use Rattle.input.specs.declared.BoolAnswer.{BoolAnswer}
-use Rattle.input.specs.declared.BoolAnswer.the-variants as B
-use Rattle.input.specs.declared.I8Answer.{I8Answer}
-use Rattle.input.specs.declared.I8Answer.the-variants as I8
-use Rattle.input.specs.declared.I16Answer.{I16Answer}
-use Rattle.input.specs.declared.I16Answer.the-variants as I16
-use Rattle.input.specs.declared.I32Answer.{I32Answer}
-use Rattle.input.specs.declared.I32Answer.the-variants as I32
-use Rattle.input.specs.declared.I64Answer.{I64Answer}
-use Rattle.input.specs.declared.I64Answer.the-variants as I64
-use Rattle.input.specs.declared.DoubleAnswer.{DoubleAnswer}
-use Rattle.input.specs.declared.DoubleAnswer.the-variants as D
-use Rattle.input.specs.declared.PartAnswer.{PartAnswer}
-use Rattle.input.specs.declared.PartAnswer.the-variants as P
-use Rattle.input.specs.declared.ListAnswer.{ListAnswer}
-use Rattle.input.specs.declared.ListAnswer.the-variants as L
-use Rattle.input.specs.declared.MapAnswer.{MapAnswer}
-use Rattle.input.specs.declared.MapAnswer.the-variants as M
-use Rattle.input.specs.declared.FieldAnswer.{FieldAnswer}
-use Rattle.input.specs.declared.FieldAnswer.the-variants as F
-use Rattle.input.specs.declared.MessageAnswer.{MessageAnswer}
-use Rattle.input.specs.declared.MessageAnswer.the-variants as H
-use Rattle.input.specs.declared.DoneAnswer.{DoneAnswer}
-use Rattle.input.specs.declared.DoneAnswer.the-variants as N
 use Rattle.input.specs.declared.ReadBool.{ReadBool}
 use Rattle.input.specs.declared.ReadI8.{ReadI8}
 use Rattle.input.specs.declared.ReadI16.{ReadI16}
@@ -51,8 +18,8 @@ use Rattle.input.specs.declared.ReadMap.{ReadMap}
 use Rattle.input.specs.declared.ReadField.{ReadField}
 use Rattle.input.specs.declared.ReadMessage.{ReadMessage}
 use Rattle.input.specs.declared.ReadDone.{ReadDone}
-use Rattle.rows.specs.Row.{readerOf, readerAfter}
-use Rattle.rows.specs.Reads.{outBool, outI8, outI16, outI32, outI64, outDouble, partStart, partEnd, listKind, listCount, mapKey, mapValue, mapCount, fieldKind, fieldId, messageKind, messageSequence, nameStart, nameEnd, ToldBool, ToldI8, ToldI16, ToldI32, ToldI64, ToldDouble, ToldPart, ToldList, ToldMap, ToldField, ToldMessage, ToldDone}
+use Rattle.rows.specs.Row.{readerOf}
+use Rattle.rows.specs.Reads.{ToldBool, ToldI8, ToldI16, ToldI32, ToldI64, ToldDouble, ToldPart, ToldList, ToldMap, ToldField, ToldMessage, ToldDone}
 
 -- what was read is the call's answer for the state in the row
 pub bool-through : (row row′ : List ℕ) (value value′ : Bool) (n : ℕ) (read want : ReadBool) → ToldBool row row′ value value′ n read → read ≡ want → ToldBool row row′ value value′ n want

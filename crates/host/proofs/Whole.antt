@@ -1,0 +1,144 @@
+-- A state in two rows is a whole state: the calls that take no ids answer the same whatever the ids are, and leave them; the struct calls do with their row of
+-- ids what they do with a state's own. Assumes nothing.
+use mathlib.Core.Path.{_≡_, refl, ap}
+use mathlib.Core.Bool.{Bool, true, false, cond}
+use mathlib.Core.List.{List, []}
+use Prim.Native.Nat.{ℕ}
+use borrow.Author.Tests.{ne-eqb}
+use lib.Dec.{eqb, leb}
+use lib.IntN.{ℤ}
+use lib.ListN.{length}
+use Rattle.types.specs.Limits.{inRange}
+use Rattle.types.specs.Refusals.{DEPTH, OUT-OF-TURN, BAD-STATE}
+use Rattle.numbers.specs.Varint.{Found, got, refused}
+use Rattle.heads.specs.Reader.{Reader, readAt}
+use Rattle.heads.specs.Heads.{Field, stop, bool, value, field, message}
+use Rattle.heads.specs.Answers.{place}
+use Rattle.input.specs.State as I
+use Rattle.input.specs.Outcome.{Outcome, calls, from, answers, declines, stays, begins, ends, anew, onField}
+use Rattle.input.specs.Answers.{asDone}
+use Rattle.input.specs.Calls.{structBegin, structEnd}
+use Rattle.input.specs.declared.ReadDone.{ReadDone}
+use Rattle.numbers.specs.Answers.{wroteAt}
+use Rattle.numbers.specs.declared.Wrote.{Wrote}
+use Rattle.numbers.specs.declared.Wrote.the-variants as W
+use Rattle.output.specs.State as O
+use Rattle.output.specs.Calls.{call, writes, leaves, settled, refusedBy, beginWrong, endWrong}
+use Rattle.output.specs.declared.Written.{Written}
+use Rattle.rows.specs.Row.{noLimits, readerOf, writerOf}
+use Rattle.rows.specs.Structs.{savedRead, restoredRead, savedWrite, restoredWrite, beginWrites, endWrites}
+
+-- a state with other ids
+abbrev pub withIds : I.State → List ℤ → I.State
+withIds st ids = record { place = st .place; last = st .last; depth = st .depth; ids = ids; pending = st .pending; limits = st .limits }
+
+abbrev pub toIds : {A : Type 0} → Outcome A → List ℤ → Outcome A
+toIds o ids = record { said = o .said; state = withIds (o .state) ids }
+
+module _ (s : List ℕ) (st : I.State) (ids : List ℤ) where
+  module _ {A : Type 0} (move : I.State → A → I.State) (k : (a : A) → move (withIds st ids) a ≡ withIds (move st a) ids) where
+    moved : (b : Bool) (g : ℕ) (f : Found A) → cond b (from move (withIds st ids) f) (declines g (withIds st ids)) ≡ toIds (cond b (from move st f) (declines g st)) ids
+    moved true g (got a e) = ap (λ (x : I.State). answers a (I.movedTo x (place e))) (k a)
+    moved true g (refused why) = refl
+    moved false g f = refl
+
+    pub calls-whole : (p : I.State → Reader A) → p (withIds st ids) ≡ p st → calls p move s (withIds st ids) ≡ toIds (calls p move s st) ids
+    unfolding calls I.gate I.sound
+    calls-whole p e = rw e (moved (eqb (I.gate (length s) st) 0) (I.gate (length s) st) (readAt (p st) s (st .place .0)))
+
+  -- of each call that only moves the place
+  pub stays-whole : {A : Type 0} (p : I.State → Reader A) → p (withIds st ids) ≡ p st → calls p stays s (withIds st ids) ≡ toIds (calls p stays s st) ids
+  stays-whole p e = calls-whole stays (λ a. refl) p e
+
+  -- of the field call and the message call
+  fielded : (f : Field) → onField (withIds st ids) f ≡ withIds (onField st f) ids
+  fielded stop = refl
+  fielded (bool b id) = refl
+  fielded (value t id) = refl
+
+  pub field-whole : calls (λ st. field (st .last .0)) onField s (withIds st ids) ≡ toIds (calls (λ st. field (st .last .0)) onField s st) ids
+  field-whole = calls-whole onField fielded (λ st. field (st .last .0)) refl
+
+  pub message-whole : calls (λ st. message (st .limits)) anew s (withIds st ids) ≡ toIds (calls (λ st. message (st .limits)) anew s st) ids
+  message-whole = calls-whole anew (λ m. refl) (λ st. message (st .limits)) refl
+
+  -- a struct's begin saves the last id in the row as in the state
+  begun : (a b : Bool) (g : ℕ) → asDone (cond a (cond b (declines DEPTH (withIds st ids)) (answers tt (I.entered (withIds st ids)))) (declines g (withIds st ids))) ≡ (let r : ReadDone = asDone (cond a (cond b (declines DEPTH st) (answers tt (I.entered st))) (declines g st)) in record { answer = r .answer; state = withIds (r .state) (savedRead ids st (r .answer)) })
+  begun true true g = refl
+  begun true false g = refl
+  begun false b g = refl
+
+  pub begun-whole : structBegin s (withIds st ids) ≡ record { answer = structBegin s st .answer; state = withIds (structBegin s st .state) (savedRead ids st (structBegin s st .answer)) }
+  unfolding structBegin begins I.gate I.sound
+  begun-whole = begun (eqb (I.gate (length s) st) 0) (leb (st .limits .depth) (st .depth)) (I.gate (length s) st)
+
+  -- and its end restores it
+  ended : (a b : Bool) (g : ℕ) → asDone (cond a (cond b (declines OUT-OF-TURN (withIds st ids)) (answers tt (I.left (withIds st ids)))) (declines g (withIds st ids))) ≡ (let r : ReadDone = asDone (cond a (cond b (declines OUT-OF-TURN st) (answers tt (I.left st))) (declines g st)) in record { answer = r .answer; state = withIds (restoredRead ids (r .state) (r .answer)) ids })
+  ended true true g = refl
+  ended true false g = refl
+  ended false b g = refl
+
+  pub ended-whole : structEnd s (withIds st ids) ≡ record { answer = structEnd s st .answer; state = withIds (restoredRead ids (structEnd s st .state) (structEnd s st .answer)) ids }
+  unfolding structEnd ends I.gate I.sound
+  ended-whole = ended (eqb (I.gate (length s) st) 0) (eqb (st .depth) 0) (I.gate (length s) st)
+
+-- The writer's states.
+abbrev pub idsWith : O.State → List ℤ → O.State
+idsWith st ids = record { place = st .place; last = st .last; depth = st .depth; ids = ids; pending = st .pending; limits = st .limits }
+
+module _ (buf : List ℕ) (st : O.State) (ids : List ℤ) where
+  -- of a call that leaves the ids: what is wrong with it and its bytes do not see them
+  written : (a : Bool) (g : ℕ) (next : O.State) (w : Wrote) → cond a (settled (idsWith st ids) (idsWith next ids) w) (refusedBy (idsWith st ids) g) ≡ (let r : Written = cond a (settled st next w) (refusedBy st g) in record { answer = r .answer; state = idsWith (r .state) ids })
+  unfolding settled
+  written true g next (W.To p) = refl
+  written true g next (W.Refused why) = refl
+  written false g next w = refl
+
+  pub writes-whole : (wrong : ℕ) (bs : List ℕ) (next : O.State) → writes buf (idsWith st ids) (call wrong bs (idsWith next ids)) ≡ record { answer = writes buf st (call wrong bs next) .answer; state = idsWith (writes buf st (call wrong bs next) .state) ids }
+  unfolding writes O.unsound
+  writes-whole wrong bs next = written (eqb (O.orElse (O.unsound (length buf) st) wrong) 0) (O.orElse (O.unsound (length buf) st) wrong) next (wroteAt buf (st .place .0) bs)
+
+  pub leaves-whole : (wrong : ℕ) (bs : List ℕ) (next : O.State) → leaves buf (idsWith st ids) (call wrong bs (idsWith next ids)) ≡ leaves buf st (call wrong bs next)
+  unfolding leaves O.unsound
+  leaves-whole wrong bs next = refl
+
+  -- a struct's begin and end
+  begins-so : (a : Bool) (g : ℕ) (w : Wrote) → cond a (settled (idsWith st ids) (O.entered (idsWith st ids)) w) (refusedBy (idsWith st ids) g) ≡ (let r : Written = cond a (settled st (O.entered st) w) (refusedBy st g) in record { answer = r .answer; state = idsWith (r .state) (savedWrite ids st (r .answer)) })
+  unfolding settled
+  begins-so true g (W.To p) = refl
+  begins-so true g (W.Refused why) = refl
+  begins-so false g w = refl
+
+  pub begin-writes-whole : beginWrites buf (idsWith st ids) ≡ record { answer = beginWrites buf st .answer; state = idsWith (beginWrites buf st .state) (savedWrite ids st (beginWrites buf st .answer)) }
+  unfolding beginWrites writes O.unsound O.inTurn beginWrong
+  begin-writes-whole =
+      begins-so (eqb (O.orElse (O.unsound (length buf) st) (O.inTurn st (beginWrong st))) 0) (O.orElse (O.unsound (length buf) st) (O.inTurn st (beginWrong st))) (wroteAt buf (st .place .0) [])
+
+  ends-so : (a : Bool) (g : ℕ) (w : Wrote) → cond a (settled (idsWith st ids) (O.ended (idsWith st ids)) w) (refusedBy (idsWith st ids) g) ≡ (let r : Written = cond a (settled st (O.ended st) w) (refusedBy st g) in record { answer = r .answer; state = idsWith (restoredWrite ids (r .state) (r .answer)) ids })
+  unfolding settled
+  ends-so true g (W.To p) = refl
+  ends-so true g (W.Refused why) = refl
+  ends-so false g w = refl
+
+  pub end-writes-whole : endWrites buf (idsWith st ids) ≡ record { answer = endWrites buf st .answer; state = idsWith (restoredWrite ids (endWrites buf st .state) (endWrites buf st .answer)) ids }
+  unfolding endWrites writes O.unsound O.inTurn endWrong
+  end-writes-whole =
+      ends-so (eqb (O.orElse (O.unsound (length buf) st) (O.inTurn st (endWrong st))) 0) (O.orElse (O.unsound (length buf) st) (O.inTurn st (endWrong st))) (wroteAt buf (st .place .0) [])
+
+-- A row that holds no state: of another length, or with a number out of its range. What stands for its state every call refuses, BAD STATE.
+pub no-reader : (len : ℕ) → I.gate len (I.fresh noLimits) ≡ BAD-STATE
+unfolding I.gate I.sound I.fresh inRange
+no-reader len = refl
+
+pub no-writer : (len : ℕ) → O.unsound len (O.begun noLimits) ≡ BAD-STATE
+unfolding O.unsound O.begun inRange
+no-writer len = refl
+
+module _ (row : List ℕ) (h : length row ≡ 7 → ⊥) where
+  pub no-reader-row : readerOf row ≡ I.fresh noLimits
+  unfolding readerOf
+  no-reader-row = rw (ne-eqb (length row) 7 h)
+
+  pub no-writer-row : writerOf row ≡ O.begun noLimits
+  unfolding writerOf
+  no-writer-row = rw (ne-eqb (length row) 7 h)
