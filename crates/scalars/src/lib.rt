@@ -57,3 +57,22 @@ pub fn through(n: u64) -> u64
 {
     to_bits(of_bits(n))
 }
+
+// A narrower signed number, the same in 64 bits.
+pub fn i8_to_i64(n: i8) -> i64
+    ensures { λ r. ⌜ r ≡ n ⌝ }
+{
+    n as i64
+}
+
+pub fn i16_to_i64(n: i16) -> i64
+    ensures { λ r. ⌜ r ≡ n ⌝ }
+{
+    n as i64
+}
+
+pub fn i32_to_i64(n: i32) -> i64
+    ensures { λ r. ⌜ r ≡ n ⌝ }
+{
+    n as i64
+}
