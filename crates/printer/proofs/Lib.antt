@@ -1,0 +1,4 @@
+pub mod Prints
+pub mod Leaf
+pub mod Walks
+pub mod Cycle
