@@ -35,7 +35,7 @@ unfoldable pub messageTold : TConfiguration → ℕ → Teller Tree
 messageTold lim room = thenTell (quiet (heads.message lim)) (λ m. aloud (row.message (m .0) (m .1) (m .2)) (valueTold lim room T.Struct))
 
 -- "limits 64, 65,536, 65,536"
-unfoldable pub limits : TConfiguration
+abbrev pub limits : TConfiguration
 limits = record { depth = 64; string = 65536; container = 65536 }
 
 -- "At the end `end USED LEFT`, or `refused N` after the lines so far"
@@ -43,11 +43,13 @@ abbrev pub ending : {A : Type 0} → ℕ → Found A → Item
 ending len (got a n) = row.end n (len - n)
 ending len (refused why) = row.refusal why
 
+-- the items of a message and its struct, and how it ended
+unfoldable pub whole : List ℕ → List Item
+whole s = messageTold limits 64 s .items ++ (ending (length s) (messageTold limits 64 s .found) ∷ [])
+
 -- the items of the input: "up to 65,536 bytes (more: the one line `refused 14`)"
 unfoldable pub report : List ℕ → List Item
-report s =
-    cond (ltb 65536 (length s)) (row.refusal NO-ROOM ∷ [])
-    (messageTold limits 64 s .items ++ (ending (length s) (messageTold limits 64 s .found) ∷ []))
+report s = cond (ltb 65536 (length s)) (row.refusal NO-ROOM ∷ []) (whole s)
 
 -- the text
 unfoldable pub textOf : List ℕ → List ℕ

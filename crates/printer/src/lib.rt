@@ -6,10 +6,11 @@ ghost use Rattle.scalars.specs.Scalars.{scalarOf};
 ghost use Rattle.scalars.specs.declared.Scalar.the-variants as S;
 ghost use Rattle.heads.specs.Heads.{int8, int16, int32, int64, double, uuid, truth, binary};
 ghost use Rattle.skip.specs.Value.{startable};
+ghost use Rattle.text.specs.Pen.{inked};
 ghost use Rattle.lines.specs.Lines as row;
 ghost use Rattle.printer.specs.Telling.{aloud, voiced};
 ghost use Rattle.printer.specs.Value.{manyTold, pairTold, pairsTold, itemsTold, mapTold, fieldsTold, structTold, valueTold};
-ghost use Rattle.printer.specs.Printing.{prints};
+ghost use Rattle.printer.specs.Printing.{prints, messageTold, written, whole, printCall};
 use heads::BoolRead;
 use heads::DoubleRead;
 use heads::FieldHead;
@@ -133,7 +134,14 @@ fn print_bytes(s: &[u8], at: Place, limits: TConfiguration, out: &mut [u8], to: 
 }
 
 // A value where no container may be entered.
-fn print_leaf(s: &[u8], at: Place, kind: TType, limits: TConfiguration, out: &mut [u8], to: usize) -> Printed
+fn print_leaf(
+    s: &[u8],
+    at: Place,
+    kind: TType,
+    limits: TConfiguration,
+    out: &mut [u8],
+    to: usize,
+) -> Printed
     ensures { λ r. ⌜ (r, now (out .exit)) ≡ prints (valueTold limits 0 kind) (now (s .entry)) (at .0) (now (out .entry), to) ⌝ }
 {
     match kind {
@@ -251,7 +259,14 @@ fn print_many(
 }
 
 // A map that has been entered. A value type Stop is refused before the first key is read.
-fn print_map(s: &[u8], at: Place, room: usize, limits: TConfiguration, out: &mut [u8], to: usize) -> Printed
+fn print_map(
+    s: &[u8],
+    at: Place,
+    room: usize,
+    limits: TConfiguration,
+    out: &mut [u8],
+    to: usize,
+) -> Printed
     ensures { λ r. ⌜ (r, now (out .exit)) ≡ prints (mapTold limits (valueTold limits room)) (now (s .entry)) (at .0) (now (out .entry), to) ⌝ }
 {
     match heads::read_map_begin(s, at, limits) {
@@ -321,7 +336,14 @@ fn print_pair(
 }
 
 // A struct that has been entered: its begin, and its fields.
-fn print_struct(s: &[u8], at: Place, room: usize, limits: TConfiguration, out: &mut [u8], to: usize) -> Printed
+fn print_struct(
+    s: &[u8],
+    at: Place,
+    room: usize,
+    limits: TConfiguration,
+    out: &mut [u8],
+    to: usize,
+) -> Printed
     ensures { λ r. ⌜ (r, now (out .exit)) ≡ prints (structTold (valueTold limits room)) (now (s .entry)) (at .0) (now (out .entry), to) ⌝ }
 {
     let q = lines::put_struct(out, to);
@@ -329,7 +351,14 @@ fn print_struct(s: &[u8], at: Place, room: usize, limits: TConfiguration, out: &
 }
 
 // A struct's fields up to the stop. Its ids begin anew.
-fn print_fields(s: &[u8], at: Place, room: usize, limits: TConfiguration, out: &mut [u8], to: usize) -> Printed
+fn print_fields(
+    s: &[u8],
+    at: Place,
+    room: usize,
+    limits: TConfiguration,
+    out: &mut [u8],
+    to: usize,
+) -> Printed
     ensures { λ r. ⌜ (r, now (out .exit)) ≡ prints (fieldsTold (valueTold limits room) (pos 0)) (now (s .entry)) (at .0) (now (out .entry), to) ⌝ }
 {
     let mut p = at;
@@ -380,4 +409,64 @@ fn print_field(
 {
     let q = lines::put_field(out, to, id, kind);
     print_value(s, at, kind, room, limits, out, q)
+}
+
+// A message's header, and its struct.
+fn print_message(
+    s: &[u8],
+    room: usize,
+    limits: TConfiguration,
+    out: &mut [u8],
+    to: usize,
+) -> Printed
+    ensures { λ r. ⌜ (r, now (out .exit)) ≡ prints (messageTold limits room) (now (s .entry)) 0 (now (out .entry), to) ⌝ }
+{
+    match heads::read_message_begin(s, Place(0), limits) {
+        MessageHead::Refused(why) => Printed::Stopped(why, to),
+        MessageHead::Got(kind, seq, start, end) => {
+            let a = start.0;
+            let e = end.0;
+            let q = lines::put_message(out, to, kind, seq, &s[a..e]);
+            print_value(s, end, TType::Struct, room, limits, out, q)
+        }
+    }
+}
+
+// The longest string and the largest container that are printed.
+const MOST_SIZE: u32 = 65_536;
+
+// All of it, with the line that says how it ended.
+fn print_whole(s: &[u8], out: &mut [u8]) -> Text
+    ensures { λ r. ⌜ (r, now (out .exit)) ≡ written (inked (row.lines (whole (now (s .entry)))) (now (out .entry), 0)) ⌝ }
+{
+    let limits = TConfiguration {
+        depth: TConfiguration::MAX_DEPTH,
+        string: MOST_SIZE,
+        container: MOST_SIZE,
+    };
+    match print_message(s, TConfiguration::MAX_DEPTH, limits, out, 0) {
+        Printed::Went(end, to) => {
+            let used = end.0;
+            Text::Wrote(lines::put_end(out, to, used, s.len() - used))
+        }
+        Printed::Stopped(why, to) => Text::Wrote(lines::put_refusal(out, to, why)),
+    }
+}
+
+// The longest input that is printed, and room enough for the text of any input.
+pub const MOST: usize = 65_536;
+
+pub const ROOM: usize = 2_097_152;
+
+// The text of the input, from the buffer's start on.
+pub fn print(s: &[u8], out: &mut [u8]) -> Text
+    ensures { λ r. ⌜ (r, now (out .exit)) ≡ printCall (now (s .entry)) (now (out .entry)) ⌝ }
+{
+    if out.len() < ROOM {
+        return Text::Refused(types::NO_ROOM);
+    }
+    if MOST < s.len() {
+        return Text::Wrote(lines::put_refusal(out, 0, types::NO_ROOM));
+    }
+    print_whole(s, out)
 }
