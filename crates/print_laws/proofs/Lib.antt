@@ -1,0 +1,2 @@
+pub mod Tale
+pub mod Text
