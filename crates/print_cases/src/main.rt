@@ -16,10 +16,10 @@ fn file_room() -> [u8; 262144]
     [0; 262144]
 }
 
-fn text_room() -> [u8; 2097152]
-    ensures { λ r. ⌜ 2097152 ≡ length r ⌝ }
+fn text_room() -> [u8; 4194304]
+    ensures { λ r. ⌜ 4194304 ≡ length r ⌝ }
 {
-    [0; 2097152]
+    [0; 4194304]
 }
 
 fn within(n: usize, out: &[u8]) -> usize

@@ -124,17 +124,17 @@ pub ruleset whole-cases = (used-inside, whole-end, whole-no)
 
 -- print
 module _ (s out : List ℕ) where
-  pub call-short : length out < 2097152 → (X.Refused NO-ROOM, out) ≡ printCall s out
+  pub call-short : length out < 4194304 → (X.Refused NO-ROOM, out) ≡ printCall s out
   unfolding printCall
-  call-short h = rw (lt-ltb (length out) 2097152 h)
+  call-short h = rw (lt-ltb (length out) 4194304 h)
 
-  module _ (h : 2097152 ≤ length out) where
+  module _ (h : 4194304 ≤ length out) where
     pub call-long : (o : List ℕ) (n : ℕ) → 65536 < length s → (o, n) ≡ inked (line (row.refusal NO-ROOM)) (out, 0) → (X.Wrote n, o) ≡ printCall s out
     unfolding printCall textOf report lines
-    call-long o n l e = rw (le-ltb (length out) 2097152 h, lt-ltb 65536 (length s) l) (ap written (e ∙ ap (λ (k : List ℕ). inked k (out, 0)) (sym (append-nil (line (row.refusal NO-ROOM))))))
+    call-long o n l e = rw (le-ltb (length out) 4194304 h, lt-ltb 65536 (length s) l) (ap written (e ∙ ap (λ (k : List ℕ). inked k (out, 0)) (sym (append-nil (line (row.refusal NO-ROOM))))))
 
     pub call-whole : (r : Text × List ℕ) → length s ≤ 65536 → r ≡ written (inked (lines (whole s)) (out, 0)) → r ≡ printCall s out
     unfolding printCall textOf report
-    call-whole r l e = rw (le-ltb (length out) 2097152 h, le-ltb 65536 (length s) l) e
+    call-whole r l e = rw (le-ltb (length out) 4194304 h, le-ltb 65536 (length s) l) e
 
 pub ruleset call-cases = (call-short, call-long, call-whole)

@@ -60,4 +60,4 @@ abbrev pub written : Pen → Text × List ℕ
 written p = (X.Wrote (p .1), p .0)
 
 unfoldable pub printCall : List ℕ → List ℕ → Text × List ℕ
-printCall s out = cond (ltb (length out) 2097152) (X.Refused NO-ROOM, out) (written (inked (textOf s) (out, 0)))
+printCall s out = cond (ltb (length out) 4194304) (X.Refused NO-ROOM, out) (written (inked (textOf s) (out, 0)))

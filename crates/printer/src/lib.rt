@@ -456,7 +456,7 @@ fn print_whole(s: &[u8], out: &mut [u8]) -> Text
 // The longest input that is printed, and room enough for the text of any input.
 pub const MOST: usize = 65_536;
 
-pub const ROOM: usize = 2_097_152;
+pub const ROOM: usize = 4_194_304;
 
 // The text of the input, from the buffer's start on.
 pub fn print(s: &[u8], out: &mut [u8]) -> Text

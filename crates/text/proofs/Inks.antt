@@ -2,7 +2,7 @@
 use mathlib.Core.Path.{_≡_, refl, sym, ap, _∙_}
 use mathlib.Core.Bool.{Bool, true, false, cond}
 use mathlib.Core.List.{List, [], _∷_, _++_}
-use Prim.Native.Nat.{ℕ, zero, suc, _+_, _-_, _*_, _/_, _%_, _≤_, _<_}
+use Prim.Native.Nat.{ℕ, zero, suc, _+_, _-_, _*_, _/_, _%_, _^_, _≤_, _<_}
 use native.Mathlib.Nat.{add-zero}
 use native.Mathlib.Numerals.{add-one, sub-one}
 use native.Mathlib.Omega.{arith}
@@ -80,32 +80,39 @@ module _ (word : List ℕ) (out : List ℕ) (p i : ℕ) where
 
 pub ruleset word-cases = (word-done, word-turn, same-length)
 
--- put_decimal
-digits-fuel : (k j n : ℕ) → n ≤ k → n ≤ j → digits k n ≡ digits j n
+-- put_decimal: what has few digits is written alike, however many there may be
+tens : ℕ → ℕ
+tens zero = 10
+tens (suc k) = 10 * tens k
+
+digits-fuel : (k j n : ℕ) → n < tens k → n < tens j → digits k n ≡ digits j n
+unfolding tens
 digits-fuel zero zero n h i = refl
-digits-fuel zero (suc j) n h i = let t : n < 10 = omega arith in rw (lt-ltb n 10 t)
-digits-fuel (suc k) zero n h i = let t : n < 10 = omega arith in rw (lt-ltb n 10 t)
+digits-fuel zero (suc j) n h i = let e : n % 10 ≡ n = omega arith in rw (lt-ltb n 10 h, e)
+digits-fuel (suc k) zero n h i = let e : n % 10 ≡ n = omega arith in rw (lt-ltb n 10 i, e)
 digits-fuel (suc k) (suc j) n h i =
     ap (λ (l : List ℕ). cond (ltb n 10) (digit n ∷ []) (l ++ (digit (n % 10) ∷ []))) (digits-fuel k j (n / 10) (omega arith) (omega arith))
 
 pub decimal-one : (n : ℕ) → n < 10 → decimal n ≡ (48 + n) ∷ []
 unfolding decimal
-decimal-one zero h = refl
-decimal-one (suc n) h = rw (lt-ltb (suc n) 10 h)
+decimal-one n h = rw (lt-ltb n 10 h)
 
-pub decimal-more : (n : ℕ) → 10 ≤ n → decimal n ≡ decimal (n / 10) ++ ((48 + n % 10) ∷ [])
+few : (n : ℕ) → n < 2 ^ 64 → (n / 10 < tens 18) × (n / 10 < tens 19)
+unfolding tens
+few n h = (omega arith, omega arith)
+
+pub decimal-more : (n : ℕ) → n < 2 ^ 64 → 10 ≤ n → decimal n ≡ decimal (n / 10) ++ ((48 + n % 10) ∷ [])
 unfolding decimal
-decimal-more zero h = absurd (omega arith)
-decimal-more (suc n) h = rw (le-ltb (suc n) 10 h, digits-fuel n (suc n / 10) (suc n / 10) (omega arith) (omega arith))
+decimal-more n f h = rw (le-ltb n 10 h, digits-fuel 18 19 (n / 10) (few n f .0) (few n f .1))
 
 module _ (out : List ℕ) (to n : ℕ) (p : Pen) where
   pub decimal-last : n < 10 → p ≡ dot (48 + n) (out, to) → p ≡ inked (decimal n) (out, to)
   decimal-last h e = e ∙ sym (ap (λ (l : List ℕ). inked l (out, to)) (decimal-one n h) ∙ inked-one (48 + n) (out, to))
 
-  pub decimal-on : (q : Pen) → 10 ≤ n → q ≡ inked (decimal (n / 10)) (out, to) → p ≡ dot (48 + n % 10) q → p ≡ inked (decimal n) (out, to)
-  decimal-on q h f e =
-      inked-two (decimal (n / 10)) ((48 + n % 10) ∷ []) (out, to) q p f (e ∙ sym (inked-one (48 + n % 10) q))
-      ∙ ap (λ (l : List ℕ). inked l (out, to)) (sym (decimal-more n h))
+  pub decimal-on : (q : Pen) → n < 2 ^ 64 → 10 ≤ n → q ≡ inked (decimal (n / 10)) (out, to) → p ≡ dot (48 + n % 10) q → p ≡ inked (decimal n) (out, to)
+  decimal-on q f h g e =
+      inked-two (decimal (n / 10)) ((48 + n % 10) ∷ []) (out, to) q p g (e ∙ sym (inked-one (48 + n % 10) q))
+      ∙ ap (λ (l : List ℕ). inked l (out, to)) (sym (decimal-more n f h))
 
 pub ruleset decimal-cases = (decimal-last, decimal-on)
 

@@ -19,13 +19,14 @@ ascii (c before s) = code c ∷ ascii s
 abbrev pub digit : ℕ → ℕ
 digit d = 48 + d
 
--- a number's decimal digits, the highest first and none of them a leading zero; k is at least the number, which bounds how many there are
+-- a number's decimal digits, the highest first and none of them a leading zero, at most k more than one
 abbrev pub digits : ℕ → ℕ → List ℕ
-digits zero n = digit n ∷ []
+digits zero n = digit (n % 10) ∷ []
 digits (suc k) n = cond (ltb n 10) (digit n ∷ []) (digits k (n / 10) ++ (digit (n % 10) ∷ []))
 
+-- a number of up to 64 bits: 20 digits hold more
 unfoldable pub decimal : ℕ → List ℕ
-decimal n = digits n n
+decimal n = digits 19 n
 
 -- a signed number: `negsuc n` is -n-1
 unfoldable pub signed : ℤ → List ℕ

@@ -5,4 +5,4 @@ use Rattle.print_cases.proofs.text_room.Statement.{statement}
 use Rattle.print_cases.proofs.text_room.Tie as tie
 
 pub text-room-spec : {M : Type 1} → statement M
-text-room-spec = tie.close (tie.spec (λ c. sym (length-replicate {0} {A = ℕ} 2097152 0)))
+text-room-spec = tie.close (tie.spec (λ c. sym (length-replicate {0} {A = ℕ} 4194304 0)))
