@@ -1,0 +1,3 @@
+pub mod Tale
+pub mod Text
+pub mod Enough
