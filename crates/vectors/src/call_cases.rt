@@ -1,7 +1,5 @@
 // The cases of crates input and skip: a call of a new reader over these bytes, under limits 64, 2,147,483,647 and 2,147,483,647.
-use crate::say;
-use crate::say::Answer;
-use crate::words;
+use say::Answer;
 use input::BoolAnswer;
 use input::DoneAnswer;
 use input::FieldAnswer;

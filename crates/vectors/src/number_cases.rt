@@ -1,7 +1,5 @@
 // The cases of crate numbers: a number read from bytes, or written as bytes.
-use crate::say;
-use crate::say::Answer;
-use crate::words;
+use say::Answer;
 use numbers::Bits64;
 use numbers::Int16;
 use numbers::Varint32;

@@ -2,8 +2,8 @@
 use Prim.Native.Nat.{ℕ}
 use mathlib.Core.Path.{sym}
 use lib.ListN.{length-replicate}
-use Rattle.vectors.proofs.room.Statement.{statement}
-use Rattle.vectors.proofs.room.Tie as tie
+use Rattle.words.proofs.room.Statement.{statement}
+use Rattle.words.proofs.room.Tie as tie
 
 returns : tie.Need-returns
 returns c = sym (length-replicate {0} {A = ℕ} 1048576 0)

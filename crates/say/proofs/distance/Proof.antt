@@ -3,8 +3,8 @@ use native.Mathlib.Omega.{arith}
 use mir.Syntax.{w64}
 use Rattle.zigzag.proofs.Zig.{to-zig, down-more}
 use borrow.Author.Needs.{needs}
-use Rattle.vectors.proofs.say.distance.Statement.{statement}
-use Rattle.vectors.proofs.say.distance.Tie as tie
+use Rattle.say.proofs.distance.Statement.{statement}
+use Rattle.say.proofs.distance.Tie as tie
 
 cast-result : tie.Need-cast-result
 cast-result c = search to-zig

@@ -1,9 +1,17 @@
-// Reading a case: the words of its line, and the bytes and numbers that they spell.
+// Reading a case, for the programs that replay cases: the words of its line, and the bytes and numbers that they spell.
 ghost use mathlib.Core.Path.{_≡_};
 ghost use Prim.Native.Nat.{_≤_, _<_};
+ghost use lib.ListN.{length};
+
+// Zeros for the whole of standard input, by a function that says no more than how many: a proof that sees the array would compute it.
+pub fn room() -> [u8; 1048576]
+    ensures { λ r. ⌜ 1048576 ≡ length r ⌝ }
+{
+    [0; 1048576]
+}
 
 // The part of s from a to e; empty where there is no such part.
-pub(crate) fn part(s: &[u8], a: usize, e: usize) -> &[u8] {
+pub fn part(s: &[u8], a: usize, e: usize) -> &[u8] {
     if s.len() < e {
         return &s[..0];
     }
@@ -14,7 +22,7 @@ pub(crate) fn part(s: &[u8], a: usize, e: usize) -> &[u8] {
 }
 
 // The place of the first b from `at` on, or the end.
-pub(crate) fn find(s: &[u8], at: usize, b: u8) -> usize
+pub fn find(s: &[u8], at: usize, b: u8) -> usize
     ensures { λ r. ⌜ at ≤ r ⌝ }
 {
     let mut i = at;
@@ -43,7 +51,7 @@ fn word(line: &[u8], n: usize) -> &[u8] {
 }
 
 // The n-th word as a name: its bytes as one number, the first the highest, so that it is told by one test.
-pub(crate) fn name(line: &[u8], n: usize) -> u64 {
+pub fn name(line: &[u8], n: usize) -> u64 {
     big(word(line, n))
 }
 
@@ -81,7 +89,7 @@ fn nibble(c: u8) -> u8
 }
 
 // Puts the bytes that the n-th word spells in hex into room from `at` on; the place behind them. `-` spells none.
-pub(crate) fn bytes(line: &[u8], n: usize, room: &mut [u8], at: usize) -> usize {
+pub fn bytes(line: &[u8], n: usize, room: &mut [u8], at: usize) -> usize {
     let w = word(line, n);
     let mut i: usize = 0;
     let mut k = at;
@@ -99,7 +107,7 @@ pub(crate) fn bytes(line: &[u8], n: usize, room: &mut [u8], at: usize) -> usize 
 }
 
 // The number whose bytes the n-th word spells in hex.
-pub(crate) fn bits(line: &[u8], n: usize) -> u64 {
+pub fn bits(line: &[u8], n: usize) -> u64 {
     let mut room = [0u8; 16];
     let e = bytes(line, n, &mut room, 0);
     big(part(&room, 0, e))
@@ -131,12 +139,12 @@ fn decimal(w: &[u8]) -> u64 {
 }
 
 // The number that the n-th word spells; 0 where the line has fewer.
-pub(crate) fn number(line: &[u8], n: usize) -> u64 {
+pub fn number(line: &[u8], n: usize) -> u64 {
     decimal(word(line, n))
 }
 
 // The number from -2^63 to 2^63 - 1 that the n-th word spells; 0 where it spells none.
-pub(crate) fn signed(line: &[u8], n: usize) -> i64 {
+pub fn signed(line: &[u8], n: usize) -> i64 {
     let w = word(line, n);
     if w.len() == 0 {
         return 0;
@@ -163,7 +171,7 @@ fn below_zero(m: u64) -> i64 {
 }
 
 // The number from -2^31 to 2^31 - 1 that the n-th word spells; 0 where it spells none.
-pub(crate) fn signed32(line: &[u8], n: usize) -> i32 {
+pub fn signed32(line: &[u8], n: usize) -> i32 {
     let z = signed(line, n);
     if 0 <= z {
         let m = z as u64;

@@ -1,8 +1,8 @@
-// Writing an answer to standard output. Each part of it comes with a space before it.
+// Writing a case and its answer to standard output, for the programs that replay cases. Each part of an answer comes with a space before it.
 use libc::STDOUT_FILENO;
 
 // What a call answers. No refusal has the number 0: it stands for a case that is not known.
-pub(crate) enum Answer {
+pub enum Answer {
     Number(u64, usize),
     Signed(i64, usize),
     Bits(u64, usize),
@@ -10,7 +10,7 @@ pub(crate) enum Answer {
 }
 
 // The number, a double's bits being 16 hex digits, and the place behind it; or the refusal's number.
-pub(crate) fn all_of(a: Answer) {
+pub fn all_of(a: Answer) {
     match a {
         Answer::Number(n, p) => {
             number(n);
@@ -32,16 +32,29 @@ pub(crate) fn all_of(a: Answer) {
     }
 }
 
-pub(crate) fn text(s: &[u8]) {
+// Writes a line again; whether it is a case that asks for an answer, ` =` standing behind it then. An empty line and one that begins with # are none.
+pub fn asks(line: &[u8]) -> bool {
+    text(line);
+    if line.len() == 0 {
+        return false;
+    }
+    if line[0] == b'#' {
+        return false;
+    }
+    text(b" =");
+    true
+}
+
+pub fn text(s: &[u8]) {
     io::write_all(STDOUT_FILENO, s);
 }
 
-pub(crate) fn number(n: u64) {
+pub fn number(n: u64) {
     text(b" ");
     io::print_decimal(STDOUT_FILENO, n);
 }
 
-pub(crate) fn signed(n: i64) {
+pub fn signed(n: i64) {
     if 0 <= n {
         text(b" ");
     } else {
@@ -58,7 +71,7 @@ fn distance(n: i64) -> u64 {
     (!n) as u64 + 1
 }
 
-pub(crate) fn truth(yes: bool) {
+pub fn truth(yes: bool) {
     if yes {
         text(b" yes");
     } else {
@@ -67,11 +80,11 @@ pub(crate) fn truth(yes: bool) {
 }
 
 // A byte as two hex digits.
-pub(crate) fn byte(b: u8) {
+pub fn byte(b: u8) {
     io::print_hex(STDOUT_FILENO, b as u64, 2);
 }
 
-pub(crate) fn bytes(s: &[u8]) {
+pub fn bytes(s: &[u8]) {
     text(b" ");
     let mut i: usize = 0;
     while i < s.len() {

@@ -1,7 +1,7 @@
 -- The words that are still to be passed fall. Assumes nothing.
 use borrow.Author.Needs.{needs}
-use Rattle.vectors.proofs.words.word.Statement.{statement}
-use Rattle.vectors.proofs.words.word.Tie as tie
+use Rattle.words.proofs.word.Statement.{statement}
+use Rattle.words.proofs.word.Tie as tie
 
 abbrev Inv-loop : tie.InvT-loop
 Inv-loop line n at₀ left₀ at left = Unit {0}

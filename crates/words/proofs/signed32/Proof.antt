@@ -1,8 +1,8 @@
 -- A number not below 0, and one below 0 turned, fit the unsigned type. Assumes nothing.
 use Rattle.zigzag.proofs.Zig.{to-zig}
 use borrow.Author.Needs.{needs}
-use Rattle.vectors.proofs.words.signed32.Statement.{statement}
-use Rattle.vectors.proofs.words.signed32.Tie as tie
+use Rattle.words.proofs.signed32.Statement.{statement}
+use Rattle.words.proofs.signed32.Tie as tie
 
 signed-requires : tie.Need-signed-requires
 signed-requires c κs = search needs

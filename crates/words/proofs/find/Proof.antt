@@ -2,8 +2,8 @@
 use Prim.Native.Nat.{_-_, _≤_}
 use lib.ListN.{length}
 use borrow.Author.Needs.{needs}
-use Rattle.vectors.proofs.words.find.Statement.{statement}
-use Rattle.vectors.proofs.words.find.Tie as tie
+use Rattle.words.proofs.find.Statement.{statement}
+use Rattle.words.proofs.find.Tie as tie
 
 abbrev Inv-loop : tie.InvT-loop
 Inv-loop s at b i₀ i = at ≤ i

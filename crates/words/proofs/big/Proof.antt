@@ -2,8 +2,8 @@
 use Prim.Native.Nat.{_-_}
 use lib.ListN.{length}
 use borrow.Author.Needs.{needs}
-use Rattle.vectors.proofs.words.big.Statement.{statement}
-use Rattle.vectors.proofs.words.big.Tie as tie
+use Rattle.words.proofs.big.Statement.{statement}
+use Rattle.words.proofs.big.Tie as tie
 
 abbrev Inv-loop : tie.InvT-loop
 Inv-loop w n₀ i₀ n i = Unit {0}

@@ -3,8 +3,8 @@ use mathlib.Core.Path.{_≡_}
 use Prim.Native.Nat.{_-_}
 use lib.ListN.{length}
 use borrow.Author.Needs.{needs}
-use Rattle.vectors.proofs.words.bytes.Statement.{statement}
-use Rattle.vectors.proofs.words.bytes.Tie as tie
+use Rattle.words.proofs.bytes.Statement.{statement}
+use Rattle.words.proofs.bytes.Tie as tie
 
 abbrev Inv-loop : tie.InvT-loop
 Inv-loop line n room₀ at w i₀ k₀ room i k = length room ≡ length room₀

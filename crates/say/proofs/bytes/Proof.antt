@@ -2,8 +2,8 @@
 use Prim.Native.Nat.{_-_}
 use lib.ListN.{length}
 use borrow.Author.Needs.{needs}
-use Rattle.vectors.proofs.say.bytes.Statement.{statement}
-use Rattle.vectors.proofs.say.bytes.Tie as tie
+use Rattle.say.proofs.bytes.Statement.{statement}
+use Rattle.say.proofs.bytes.Tie as tie
 
 abbrev Inv-loop : tie.InvT-loop
 Inv-loop s i₀ i = Unit {0}
