@@ -1,4 +1,4 @@
-"""Rows of calls, for crates/rows: the cases of the writer and of the published tests, and their answers.
+"""Rows of calls, for crates/vectors_out (the writer's) and crates/vectors (the reader's), and their answers; those of the published tests among them.
 
 A call is a tuple, ('field', 5, 1), a type being its number. A row has limits (depth, string, container), a room and calls. What each call answers
 is said by a model of the rules of docs/SCOPE.md, and by the crate in both builds wherever it has the call: they must agree. Where docs/DIFFERENCES.md has a
@@ -6,7 +6,6 @@ number for what the crate does instead, the row has that number and the crate's 
 refusal of its writer but 10: of the others the number is the rules' alone. What follows a refused call is compared with the crate's answers to the row without it.
 """
 import random
-import re
 import struct
 
 NUMBERS = {'stop': 0, 'bool': 1, 'i8': 3, 'i16': 4, 'i32': 5, 'i64': 6, 'double': 7, 'string': 8, 'list': 9, 'set': 10, 'map': 11, 'struct': 12, 'uuid': 13}
@@ -147,6 +146,10 @@ def harness(call):
     """The same for the harness over the crate, which has types by name."""
     name, *args = call
     name = {'begin': 'sbegin', 'end': 'send'}.get(name, name)
+    if not args:
+        return name
+    if name == 'skip':
+        args = [NAMES[args[0]]]
     if name in ('field', 'list', 'set'):
         args = [NAMES[args[0]], args[1]]
     if name == 'map':
@@ -184,7 +187,7 @@ TEXTS = ['', 'a', 'né', '€', '𝄞', '\x00', '\x7f\x80']
 def field_rows(wide):
     """(last id, id) whose difference fits 16 signed bits, or not."""
     lasts = [0, 1, 14, 15, 16, 100, -1, -15, -100, 16383, -16384, 32752, 32753, 32766, 32767, -32768, -32767]
-    pairs = {(last, i) for last in lasts for i in IDS} | {(last, last + d) for last in lasts for d in range(-17, 18)}
+    pairs = {(last, i) for last in lasts for i in IDS} | {(last, last + d) for last in lasts for d in range(-17, 18)} | {(32767, i) for i in range(-32768, -32750)}
     fits = lambda d: -32768 <= d <= 32767
     return sorted((last, i) for last, i in pairs if fits(i) and fits(i - last) != wide)
 
@@ -260,7 +263,8 @@ def chance_kind(dice, depth):
 
 
 def refused_rows():
-    """(title, rows): refused calls, and what the state and the buffer are behind them. A row's number is that of docs/DIFFERENCES.md."""
+    """(title, rows): refused calls, and what the state and the buffer are behind them. A row's number is that of docs/DIFFERENCES.md; `-` where the crate can't
+    be asked, as it has no such state or argument."""
     after = [('field', 5, 4), ('stop',)]
     start = [('field', 12, 3)]
     yield 'field: differences of more than 16 bits', [Row([('field', 5, last), ('field', 5, i)], number='D16' if last - i > 65521 else 'D17') for last, i in field_rows(True)]
@@ -298,6 +302,18 @@ def refused_rows():
     yield 'a depth over its limit, on every call (the crate has no such state)', [
         Row([('depth', d), c, ('depth', 0), ('i8', 1)], limits=(limit, 9, 9), number='-') for limit, d in ((0, 1), (3, 4), (64, 65), (64, (1 << 64) - 1)) for c in SCALARS + HEADERS + [('end',)]]
     yield 'which of two refusals is given', order_rows()
+    yield 'calls by chance, under small limits and in a small room', [chance_row(random.Random(k)) for k in range(500)]
+
+
+def chance_row(dice):
+    """Calls in any order. What the crate has a word on is the row without the calls that the rules refuse."""
+    some = [lambda: ('field', dice.choice(KINDS + [0]), dice.randrange(-20, 40)), lambda: ('field', 1, dice.randrange(40)), lambda: ('bool', dice.randrange(2)), lambda: ('begin',),
+            lambda: ('end',), lambda: ('stop',), lambda: ('list', dice.randrange(3) and 5, dice.randrange(-1, 17)), lambda: ('set', 8, dice.randrange(-1, 17)),
+            lambda: ('map', dice.randrange(3) and 8, 5, dice.randrange(-1, 4)), lambda: ('message', dice.randrange(1, 5), dice.randrange(-9, 999), b'name'[:dice.randrange(5)]),
+            lambda: ('string', dice.choice((b'', b'ab', b'abcdef', b'\xff', b'\xc3\xa9'))), lambda: ('bytes', bytes(dice.randrange(7))), lambda: ('i64', dice.randrange(1 << 63) >> dice.randrange(63)),
+            lambda: ('i16', dice.randrange(-300, 300)), lambda: ('i32', -dice.randrange(1 << 31)), lambda: ('i8', dice.randrange(-128, 128)), lambda: ('double', dice.randrange(1 << 64))]
+    calls = [dice.choice(some)() for _ in range(dice.randrange(4, 14))]
+    return Row(calls, limits=(dice.randrange(4), dice.randrange(6), dice.randrange(16)), room=dice.randrange(30), number='+')
 
 
 def no_room_rows():
@@ -346,8 +362,8 @@ def writer_answers(judges, groups):
     kept = lambda row: [c for c, data in zip(row.calls, said[id(row)][1]) if data is not None]
     asked = [row for row in rows if row.number != '-']
     # Without the calls that the rules refuse, and with room for all: what both have a word on.
-    clean = judges.writer_words([f'W {row.limits[0]} - ' + ' '.join(harness(c) for c in kept(row)) if kept(row) else '#' for row in asked])
-    whole = judges.writer_words([f'W {row.limits[0]} {row.room} ' + ' '.join(map(harness, row.calls)) for row in asked])
+    clean = judges.row_words([f'W {row.limits[0]} - ' + ' '.join(harness(c) for c in kept(row)) if kept(row) else '#' for row in asked])
+    whole = judges.row_words([f'W {row.limits[0]} {row.room} ' + ' '.join(map(harness, row.calls)) for row in asked])
     crate = {id(row): words for row, *words in zip(asked, clean, whole)}
     for title, rs in groups:
         yield '# writer ' + title, None
@@ -357,7 +373,7 @@ def writer_answers(judges, groups):
                 compare(row, told, made, *crate[id(row)])
             if row.published:
                 yield f'# published: {row.published}', None
-            if row.number not in (None, '-'):
+            if row.number not in (None, '-', '+'):
                 yield f'# {row.number}, the crate: ' + in_short(crate[id(row)][1]), None
             limits = ' '.join(map(str, row.limits))
             yield f'writer {limits} {row.room} ' + ' '.join(map(spelt, row.calls)), ' '.join(told + [word(buffer)])
@@ -370,7 +386,7 @@ def in_short(both):
 
 
 def compare(row, told, made, clean, whole):
-    """The crate and the rules agree on the row without its refused calls; and on the row as it stands, unless a difference has a number."""
+    """The crate and the rules agree on the row without its refused calls; and on the row as it stands, unless a difference has a number (`+`: that is not asked)."""
     data = [d for d in made if d is not None]
     want = ' '.join(d.hex() or '.' for d in data)
     if data and row.number not in ('D16', 'D17'):
@@ -379,6 +395,8 @@ def compare(row, told, made, clean, whole):
         agree(row.calls, want, clean[0])
     if row.number == 'D16':
         assert clean[0] != want, row.calls
+    if row.number == '+':
+        return
     expected = []
     for answer, d in zip(told, made):
         if d is None:
@@ -388,3 +406,126 @@ def compare(row, told, made, clean, whole):
     same = all(w.split(' ; ')[0] == ' '.join(expected) for w in whole)
     if same != (row.number is None):
         raise SystemExit(f'{row.number or "no number"} at {row.calls}, room {row.room}: the rules {expected}, the crate {whole}')
+
+
+# ------------------------------------------------------------------ rows of the reader's calls
+
+class Read:
+    """`refused` has what the rules refuse and the crate does not: the number by the call's index. A published test has a name, and the values that it wants,
+    without places, or the refusals of which its last call gives one."""
+
+    def __init__(self, data, calls, limits=WIDE, number=None, published=None, refused=None, wanted=None, kinds=None):
+        self.data, self.calls, self.limits, self.number, self.published = data, list(calls), limits, number, published
+        self.refused, self.answers, self.wanted, self.kinds = dict(refused or {}), {}, wanted, kinds
+
+    def ask(self, skipped):
+        calls = [harness(c) for k, c in enumerate(self.calls) if k not in skipped]
+        return f'R {" ".join(map(str, self.limits))} - {word(self.data)} ' + ' '.join(calls) if calls else '#'
+
+
+def read_back(calls):
+    """The reader's calls over what these writer's calls wrote."""
+    out = []
+    for c in calls:
+        out.append(('field',) if c[0] == 'stop' else c[:1])
+    return out
+
+
+def written(calls):
+    """(bytes, the calls that read them) of writer's calls."""
+    writer = Writer(WIDE, 1 << 16)
+    for c in calls:
+        assert writer.call(*c) is None, c
+    return bytes(writer.buffer[:writer.place]), read_back(calls)
+
+
+def reader_rows():
+    """(title, rows)"""
+    dice = random.Random(82)
+    whole = [written([('message', dice.randrange(1, 5), dice.randrange(-99, 99), b'call')] + chance_value(dice, 12, 4)) for _ in range(250)]
+    yield 'messages with a struct, by chance', [Read(data, calls) for data, calls in whole]
+    values = [written(chance_value(dice, 12, 4)) for _ in range(300)]
+    yield 'structs cut short: a refused call leaves the state as it was (a call out of turn thereafter is the rules\' 12: D8, D11)', [
+        Read(data[:dice.randrange(len(data))], calls) for data, calls in values for _ in range(2)]
+    yield 'structs under small limits', [Read(data, calls, limits=(dice.randrange(4), dice.randrange(4), dice.randrange(4))) for data, calls in values]
+    yield 'struct: begin sets the last id to 0, end brings it back', [
+        Read(data, calls) for data, calls in (written([('field', 12, i), ('begin',), ('field', 5, j), ('stop',), ('end',), ('field', 5, i + 1), ('stop',)]) for i in (1, 15, 300, -5) for j in (1, 15, -1))]
+    yield 'message: sets the last id to 0', [Read(bytes.fromhex('55' + '8221010174' + '15'), [('field',), ('message',), ('field',)])]
+    yield 'struct: begins at the limit', [Read(b'\x15', [('begin',)] * (d + 2) + [('field',)] + [('end',)] * d, limits=(d, 0, 0)) for d in (0, 1, 2, 63, 64)]
+    others = [('i8',), ('i16',), ('i32',), ('i64',), ('double',), ('uuid',), ('bytes',), ('string',), ('list',), ('set',), ('map',), ('message',), ('field',), ('begin',)]
+    yield 'a bool is pending: only the bool call is in turn', [
+        Read(bytes.fromhex(h), [('field',), c, ('bool',), ('field',)], number='D8', refused={1: OUT_OF_TURN}) for h in ('112500', '01d80412', '1200') for c in others]
+    yield 'the same where the crate takes it for an element', [
+        Read(bytes.fromhex('1111021500'), [('field',), ('list',), ('bool',), ('list',), ('bool',), ('field',)], number='D9', refused={1: OUT_OF_TURN})]
+    yield 'a bool is pending, skips', [Read(bytes.fromhex('112500'), [('field',), ('skip', 0), ('skip', 1), ('field',)], number='D10', refused={1: OUT_OF_TURN})] + [
+        Read(bytes.fromhex('112500'), [('field',), ('skip', 1), ('field',)]), Read(bytes.fromhex('022412'), [('field',), ('skip', 1), ('field',), ('bool',)])]
+    yield 'struct: an end at depth 0', [Read(b'\x15', calls, number='D11', refused=refused) for calls, refused in (
+        ([('end',), ('field',)], {0: OUT_OF_TURN}), ([('begin',), ('end',), ('end',), ('field',)], {2: OUT_OF_TURN}))]
+    yield 'a refused call leaves the state: D12', [Read(bytes.fromhex(h), calls) for h, calls in (
+        ('01', [('field',), ('i8',), ('list',)]), ('05feff0311', [('field',), ('field',), ('i8',)]), ('85', [('field',), ('i16',), ('bool',), ('i8',)]),
+        ('ff', [('list',), ('bool',), ('i8',)]), ('05ffffffffff', [('string',), ('bytes',), ('field',), ('i8',)]), ('0e02', [('field',), ('list',)]))]
+    yield 'a limit that is out of range, on every call (the crate takes it: D13)', [
+        Read(b'\x15\x02', [c], limits=limits, number='-', refused={0: BAD_STATE})
+        for limits in ((65, 0, 0), (64, MOST + 1, 0), (64, 0, MOST + 1), (1 << 63, 4294967295, 0)) for c in others + [('bool',), ('end',), ('skip', 5), ('skip', 0)]]
+
+
+def spoken(call, words):
+    """A call's answer in the crate's words, `VALUE@PLACE`, as the port says it."""
+    value, place = words.rsplit('@', 1)
+    parts, name = value.split(','), call[0]
+    if name in ('begin', 'end', 'skip'):
+        return place
+    if name == 'bool':
+        return ('yes' if value == 'true' else 'no') + f' {place}'
+    if name == 'field':
+        return f'stop {place}' if value == 'stop' else f'{NUMBERS[parts[1]]} {parts[0]} {place}'
+    if name in ('list', 'set'):
+        return f'{NUMBERS[parts[0]]} {parts[1]} {place}'
+    if name == 'map':
+        return f'0 0 0 {place}' if value == '0' else f'{NUMBERS[parts[0]]} {NUMBERS[parts[1]]} {parts[2]} {place}'
+    if name == 'message':
+        return f'{parts[0]} {parts[1]} {parts[2][1:] or "-"} {place}'
+    if name in ('bytes', 'string', 'uuid'):
+        return f'{value[1:] or "-"} {place}'
+    return f'{value} {place}'
+
+
+def reader_answers(judges, groups):
+    rows = [row for _, rs in groups for row in rs]
+    live = [row for row in rows if row.number != '-']
+    for row in rows:
+        row.answers = {k: f'refused {n}' for k, n in row.refused.items()}
+    whole = dict(zip(map(id, live), judges.row_words([row.ask(()) for row in live])))
+    while live:
+        # A row up to its first refusal; then again without the refused call, which is to have changed nothing.
+        again = []
+        for row, both in zip(live, judges.row_words([row.ask(row.refused) for row in live])):
+            told = agree(row.calls, *[w.split(' ; ')[0] for w in both]).split()
+            indices = [k for k in range(len(row.calls)) if k not in row.refused]
+            pending = False
+            for k, words in zip(indices, [] if told == ['#'] else told):
+                call = row.calls[k]
+                # By the rules these are out of turn; the crate goes on, or panics.
+                wrong = 'D8' if pending and call not in (('bool',), ('skip', 1)) else 'D11' if words == '!panic' and call == ('end',) else None
+                if wrong or words.startswith('!'):
+                    row.refused[k] = OUT_OF_TURN if wrong else int(words[1:])
+                    row.answers[k] = f'refused {row.refused[k]}'
+                    break
+                row.answers[k] = spoken(call, words)
+                pending = call == ('field',) and words.split('@')[0].endswith(',bool')
+            if len(row.answers) < len(row.calls):
+                again.append(row)
+        live = again
+    for title, rs in groups:
+        yield '# reader ' + title, None
+        for row in rs:
+            if row.published:
+                yield f'# published: {row.published}', None
+            if row.number not in (None, '-'):
+                yield f'# {row.number}, the crate: ' + in_short(whole[id(row)]), None
+            answers = [row.answers[k] for k in range(len(row.calls))]
+            if row.wanted is not None:
+                agree(row.published, row.wanted, [a.rsplit(' ', 1)[0] for c, a in zip(row.calls, answers) if c[0] not in ('begin', 'end') and not a.startswith('stop')])
+            if row.kinds:
+                assert answers[-1] in [f'refused {n}' for n in row.kinds] and len(row.refused) == 1, row.published
+            yield f'reader {" ".join(map(str, row.limits))} {word(row.data)} ' + ' '.join(map(spelt, row.calls)), ' '.join(answers)

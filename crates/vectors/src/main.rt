@@ -20,6 +20,8 @@ const CALL: u64 = 0x63616c6c;
 
 const SKIP: u64 = 0x736b6970;
 
+const READER: u64 = 0x726561646572;
+
 fn answer(line: &[u8]) {
     match words::name(line, 0) {
         READ => number_cases::read(line),
@@ -28,6 +30,7 @@ fn answer(line: &[u8]) {
         GAP => utf8_cases::gap(line),
         CALL => call_cases::call(line),
         SKIP => call_cases::skip(line),
+        READER => call_cases::row(line),
         _ => say::text(b" ?"),
     }
 }

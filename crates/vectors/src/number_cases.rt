@@ -1,10 +1,10 @@
 // The cases of crate numbers: a number read from bytes, or written as bytes.
-use say::Answer;
 use numbers::Bits64;
 use numbers::Int16;
 use numbers::Varint32;
 use numbers::Varint64;
 use numbers::Wrote;
+use say::Answer;
 
 // The kinds of number, by their names' bytes.
 const U32: u64 = 0x753332;
@@ -107,7 +107,7 @@ enum Item {
 // An i16 is written as the i32 that it is; a double is given by its bits, in hex.
 fn item_of(kind: u64, line: &[u8]) -> Item {
     match kind {
-        U32 => Item::Narrow((words::number(line, 2) % 0x1_0000_0000) as u32),
+        U32 => Item::Narrow(words::number32(line, 2)),
         U64 => Item::Wide(words::number(line, 2)),
         I16 | I32 => Item::Narrow(zigzag::i32_to_zigzag(words::signed32(line, 2))),
         I64 => Item::Wide(zigzag::i64_to_zigzag(words::signed(line, 2))),

@@ -143,6 +143,11 @@ pub fn number(line: &[u8], n: usize) -> u64 {
     decimal(word(line, n))
 }
 
+// Its low 32 bits.
+pub fn number32(line: &[u8], n: usize) -> u32 {
+    (number(line, n) % 0x1_0000_0000) as u32
+}
+
 // The number from -2^63 to 2^63 - 1 that the n-th word spells; 0 where it spells none.
 pub fn signed(line: &[u8], n: usize) -> i64 {
     let w = word(line, n);

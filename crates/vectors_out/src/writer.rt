@@ -59,21 +59,29 @@ const MARK: u8 = 0xaa;
 
 pub(crate) fn row(line: &[u8]) {
     let mut space = io::large_buffer();
-    let room = (words::number(line, 4) % 65536) as usize;
-    fill(&mut space[..room]);
-    calls(TCompactOutputProtocol::new(limits(line)), &mut space[..room], line);
+    let room = words::number(line, 4) as usize;
+    first(&mut space, room, line);
+}
+
+// A row over so many bytes, where there are as many.
+fn first(space: &mut [u8], room: usize, line: &[u8]) {
+    if space.len() < room {
+        return;
+    }
+    over(&mut space[..room], line);
+}
+
+fn over(buf: &mut [u8], line: &[u8]) {
+    fill(buf);
+    calls(TCompactOutputProtocol::new(limits(line)), buf, line);
 }
 
 fn limits(line: &[u8]) -> TConfiguration {
     TConfiguration {
         depth: words::number(line, 1) as usize,
-        string: narrow(words::number(line, 2)),
-        container: narrow(words::number(line, 3)),
+        string: words::number32(line, 2),
+        container: words::number32(line, 3),
     }
-}
-
-fn narrow(n: u64) -> u32 {
-    (n % 0x1_0000_0000) as u32
 }
 
 fn fill(buf: &mut [u8]) {
@@ -94,16 +102,17 @@ fn calls(st: TCompactOutputProtocol, buf: &mut [u8], line: &[u8]) {
             break;
         }
         let r = call(state, buf, name, line, i + 1);
-        told(r.answer, r.state.place);
+        let answer = r.answer;
         state = r.state;
+        told(answer, state.place.0);
         i += 1 + arity(name);
     }
     left(buf);
 }
 
-fn told(answer: WriteAnswer, place: Place) {
+fn told(answer: WriteAnswer, place: usize) {
     match answer {
-        WriteAnswer::Written => say::number(place.0 as u64),
+        WriteAnswer::Written => say::number(place as u64),
         WriteAnswer::Refused(why) => say::all_of(Answer::Refused(why)),
     }
 }
@@ -140,7 +149,12 @@ fn call(st: TCompactOutputProtocol, buf: &mut [u8], name: u64, line: &[u8], i: u
         STOP => st.write_field_stop(buf),
         LIST => st.write_list_begin(buf, kind(line, i), words::signed32(line, i + 1)),
         SET => st.write_set_begin(buf, kind(line, i), words::signed32(line, i + 1)),
-        MAP => st.write_map_begin(buf, kind(line, i), kind(line, i + 1), words::signed32(line, i + 2)),
+        MAP => st.write_map_begin(
+            buf,
+            kind(line, i),
+            kind(line, i + 1),
+            words::signed32(line, i + 2),
+        ),
         _ => value(st, buf, name, line, i),
     }
 }
@@ -191,7 +205,12 @@ fn message(st: TCompactOutputProtocol, buf: &mut [u8], line: &[u8], i: usize) ->
     let mut space = io::large_buffer();
     let n = words::bytes(line, i + 2, &mut space, 0);
     let sequence = SeqNo(words::signed32(line, i + 1));
-    st.write_message_begin(buf, message_kind(line, i), sequence, words::part(&space, 0, n))
+    st.write_message_begin(
+        buf,
+        message_kind(line, i),
+        sequence,
+        words::part(&space, 0, n),
+    )
 }
 
 fn uuid(st: TCompactOutputProtocol, buf: &mut [u8], line: &[u8], i: usize) -> Written {

@@ -1,13 +1,13 @@
+-- The id fits the wider type. Assumes nothing.
 use borrow.Author.Needs.{needs}
 use Rattle.vectors.proofs.Widen.{widen}
-use Rattle.vectors.proofs.call_cases.field.Statement.{statement}
-use Rattle.vectors.proofs.call_cases.field.Tie as tie
+use Rattle.vectors.proofs.call_cases.head.Statement.{statement}
+use Rattle.vectors.proofs.call_cases.head.Tie as tie
 
-pub field-spec : {M : Type 1} → statement M
-field-spec =
+pub head-spec : {M : Type 1} → statement M
+head-spec =
     tie.close
     (tie.spec
-    (λ c κs. search needs)
     (λ c. search needs)
     (λ c. search needs)
     (λ c κs. search needs)
@@ -19,7 +19,6 @@ field-spec =
     (λ c. search needs)
     (λ c κs. search needs)
     (λ c. search widen)
-    (λ c κs. search needs)
     (λ c κs. search needs)
     (λ c κs. search needs)
     (λ c. search needs)
