@@ -363,7 +363,8 @@ def writer_answers(judges, groups):
     asked = [row for row in rows if row.number != '-']
     # Without the calls that the rules refuse, and with room for all: what both have a word on.
     clean = judges.row_words([f'W {row.limits[0]} - ' + ' '.join(harness(c) for c in kept(row)) if kept(row) else '#' for row in asked])
-    whole = judges.row_words([f'W {row.limits[0]} {row.room} ' + ' '.join(map(harness, row.calls)) for row in asked])
+    # As it stands; in the row's own room only where that is the difference.
+    whole = judges.row_words([f'W {row.limits[0]} {row.room if row.number == "D25" else "-"} ' + ' '.join(map(harness, row.calls)) for row in asked])
     crate = {id(row): words for row, *words in zip(asked, clean, whole)}
     for title, rs in groups:
         yield '# writer ' + title, None

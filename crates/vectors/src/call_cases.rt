@@ -80,18 +80,10 @@ pub(crate) fn row(line: &[u8]) {
     let mut room = io::buffer();
     let n = words::bytes(line, 4, &mut room, 0);
     calls(
-        TCompactInputProtocol::new(limits(line)),
+        TCompactInputProtocol::new(words::limits(line)),
         words::part(&room, 0, n),
         line,
     );
-}
-
-fn limits(line: &[u8]) -> TConfiguration {
-    TConfiguration {
-        depth: words::number(line, 1) as usize,
-        string: words::number32(line, 2),
-        container: words::number32(line, 3),
-    }
 }
 
 // The calls from the fifth word on; a line of more than a thousand words ends there.

@@ -10,7 +10,6 @@ use types::FieldId;
 use types::MessageTypeRead;
 use types::Place;
 use types::SeqNo;
-use types::TConfiguration;
 use types::TMessageType;
 use types::TType;
 use types::TypeRead;
@@ -73,15 +72,7 @@ fn first(space: &mut [u8], room: usize, line: &[u8]) {
 
 fn over(buf: &mut [u8], line: &[u8]) {
     fill(buf);
-    calls(TCompactOutputProtocol::new(limits(line)), buf, line);
-}
-
-fn limits(line: &[u8]) -> TConfiguration {
-    TConfiguration {
-        depth: words::number(line, 1) as usize,
-        string: words::number32(line, 2),
-        container: words::number32(line, 3),
-    }
+    calls(TCompactOutputProtocol::new(words::limits(line)), buf, line);
 }
 
 fn fill(buf: &mut [u8]) {

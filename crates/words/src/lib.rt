@@ -2,6 +2,7 @@
 ghost use mathlib.Core.Path.{_≡_};
 ghost use Prim.Native.Nat.{_≤_, _<_};
 ghost use lib.ListN.{length};
+use types::TConfiguration;
 
 // Zeros for the whole of standard input, by a function that says no more than how many: a proof that sees the array would compute it.
 pub fn room() -> [u8; 1048576]
@@ -146,6 +147,15 @@ pub fn number(line: &[u8], n: usize) -> u64 {
 // Its low 32 bits.
 pub fn number32(line: &[u8], n: usize) -> u32 {
     (number(line, n) % 0x1_0000_0000) as u32
+}
+
+// A row's limits, words 1 to 3: depth, longest string, largest container.
+pub fn limits(line: &[u8]) -> TConfiguration {
+    TConfiguration {
+        depth: number(line, 1) as usize,
+        string: number32(line, 2),
+        container: number32(line, 3),
+    }
 }
 
 // The number from -2^63 to 2^63 - 1 that the n-th word spells; 0 where it spells none.
