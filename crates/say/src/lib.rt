@@ -84,8 +84,17 @@ pub fn byte(b: u8) {
     io::print_hex(STDOUT_FILENO, b as u64, 2);
 }
 
+// Bytes as hex, `-` where there are none.
 pub fn bytes(s: &[u8]) {
+    if s.len() == 0 {
+        text(b" -");
+        return;
+    }
     text(b" ");
+    hex(s);
+}
+
+fn hex(s: &[u8]) {
     let mut i: usize = 0;
     while i < s.len() {
         byte(s[i]);

@@ -17,40 +17,24 @@ use say::Answer;
 use types::TConfiguration;
 use types::TType;
 use types::TypeRead;
+use words::BEGIN;
+use words::BOOL;
+use words::BYTES;
+use words::DOUBLE;
+use words::END;
+use words::FIELD;
+use words::I8;
+use words::I16;
+use words::I32;
+use words::I64;
+use words::LIST;
+use words::MAP;
+use words::MESSAGE;
+use words::SET;
+use words::STRING;
+use words::UUID;
 
-// The calls, by their names' bytes.
-const FIELD: u64 = 0x6669656c64;
-
-const LIST: u64 = 0x6c697374;
-
-const SET: u64 = 0x736574;
-
-const MAP: u64 = 0x6d6170;
-
-const MESSAGE: u64 = 0x6d657373616765;
-
-const BYTES: u64 = 0x6279746573;
-
-const STRING: u64 = 0x737472696e67;
-
-const UUID: u64 = 0x75756964;
-
-const BOOL: u64 = 0x626f6f6c;
-
-const I8: u64 = 0x6938;
-
-const I16: u64 = 0x693136;
-
-const I32: u64 = 0x693332;
-
-const I64: u64 = 0x693634;
-
-const DOUBLE: u64 = 0x646f75626c65;
-
-const BEGIN: u64 = 0x626567696e;
-
-const END: u64 = 0x656e64;
-
+// The calls of the reader alone, by their names' bytes.
 const SKIP: u64 = 0x736b6970;
 
 fn fresh() -> TCompactInputProtocol {
@@ -409,7 +393,7 @@ fn message(st: TCompactInputProtocol, s: &[u8]) -> TCompactInputProtocol {
         MessageAnswer::Got(kind, sequence, _, _) => {
             say::number(types::message_type_to_u8(kind) as u64);
             say::signed(sequence.0 as i64);
-            handed_out(st.message_name(s));
+            say::bytes(st.message_name(s));
             place(state);
         }
         MessageAnswer::Refused(why) => say::all_of(Answer::Refused(why)),
@@ -441,19 +425,11 @@ fn uuid(st: TCompactInputProtocol, s: &[u8]) -> TCompactInputProtocol {
     state
 }
 
-fn handed_out(bytes: &[u8]) {
-    if bytes.len() == 0 {
-        say::text(b" -");
-        return;
-    }
-    say::bytes(bytes);
-}
-
 // The bytes of a part, and the place behind it.
 fn part(answer: PartAnswer, handed: &[u8], state: TCompactInputProtocol) {
     match answer {
         PartAnswer::Got(_, _) => {
-            handed_out(handed);
+            say::bytes(handed);
             place(state);
         }
         PartAnswer::Refused(why) => say::all_of(Answer::Refused(why)),

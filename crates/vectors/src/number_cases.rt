@@ -5,21 +5,16 @@ use numbers::Varint32;
 use numbers::Varint64;
 use numbers::Wrote;
 use say::Answer;
+use words::DOUBLE;
+use words::I8;
+use words::I16;
+use words::I32;
+use words::I64;
 
-// The kinds of number, by their names' bytes.
+// The bare varints, by their names' bytes; the other kinds of number are in `words`.
 const U32: u64 = 0x753332;
 
 const U64: u64 = 0x753634;
-
-const I8: u64 = 0x6938;
-
-const I16: u64 = 0x693136;
-
-const I32: u64 = 0x693332;
-
-const I64: u64 = 0x693634;
-
-const DOUBLE: u64 = 0x646f75626c65;
 
 // `read KIND BYTES PLACE`: the number read at the place of these bytes, and the place behind it. Without a PLACE it is 0.
 pub(crate) fn read(line: &[u8]) {

@@ -13,41 +13,25 @@ use types::SeqNo;
 use types::TMessageType;
 use types::TType;
 use types::TypeRead;
+use words::BEGIN;
+use words::BOOL;
+use words::BYTES;
+use words::DOUBLE;
+use words::END;
+use words::FIELD;
+use words::I8;
+use words::I16;
+use words::I32;
+use words::I64;
+use words::LIST;
+use words::MAP;
+use words::MESSAGE;
+use words::SET;
+use words::STRING;
+use words::UUID;
 
-// The calls, by their names' bytes. The words behind a name are its arguments.
-const MESSAGE: u64 = 0x6d657373616765;
-
-const BEGIN: u64 = 0x626567696e;
-
-const END: u64 = 0x656e64;
-
-const FIELD: u64 = 0x6669656c64;
-
+// The calls of the writer alone, by their names' bytes. The words behind a name are its arguments.
 const STOP: u64 = 0x73746f70;
-
-const BOOL: u64 = 0x626f6f6c;
-
-const I8: u64 = 0x6938;
-
-const I16: u64 = 0x693136;
-
-const I32: u64 = 0x693332;
-
-const I64: u64 = 0x693634;
-
-const DOUBLE: u64 = 0x646f75626c65;
-
-const UUID: u64 = 0x75756964;
-
-const BYTES: u64 = 0x6279746573;
-
-const STRING: u64 = 0x737472696e67;
-
-const LIST: u64 = 0x6c697374;
-
-const SET: u64 = 0x736574;
-
-const MAP: u64 = 0x6d6170;
 
 // No calls: these put the state where no call would bring it.
 const PLACE: u64 = 0x706c616365;
@@ -98,7 +82,7 @@ fn calls(st: TCompactOutputProtocol, buf: &mut [u8], line: &[u8]) {
         told(answer, state.place.0);
         i += 1 + arity(name);
     }
-    left(buf);
+    say::bytes(buf);
 }
 
 fn told(answer: WriteAnswer, place: usize) {
@@ -106,14 +90,6 @@ fn told(answer: WriteAnswer, place: usize) {
         WriteAnswer::Written => say::number(place as u64),
         WriteAnswer::Refused(why) => say::all_of(Answer::Refused(why)),
     }
-}
-
-fn left(buf: &[u8]) {
-    if buf.len() == 0 {
-        say::text(b" -");
-        return;
-    }
-    say::bytes(buf);
 }
 
 // How many words follow the call's name.

@@ -4,6 +4,39 @@ ghost use Prim.Native.Nat.{_≤_, _<_};
 ghost use lib.ListN.{length};
 use types::TConfiguration;
 
+// Names that several groups of cases have, each as the number that `name` makes of its bytes.
+pub const BEGIN: u64 = 0x626567696e;
+
+pub const BOOL: u64 = 0x626f6f6c;
+
+pub const BYTES: u64 = 0x6279746573;
+
+pub const DOUBLE: u64 = 0x646f75626c65;
+
+pub const END: u64 = 0x656e64;
+
+pub const FIELD: u64 = 0x6669656c64;
+
+pub const I16: u64 = 0x693136;
+
+pub const I32: u64 = 0x693332;
+
+pub const I64: u64 = 0x693634;
+
+pub const I8: u64 = 0x6938;
+
+pub const LIST: u64 = 0x6c697374;
+
+pub const MAP: u64 = 0x6d6170;
+
+pub const MESSAGE: u64 = 0x6d657373616765;
+
+pub const SET: u64 = 0x736574;
+
+pub const STRING: u64 = 0x737472696e67;
+
+pub const UUID: u64 = 0x75756964;
+
 // Zeros for the whole of standard input, by a function that says no more than how many: a proof that sees the array would compute it.
 pub fn room() -> [u8; 1048576]
     ensures { λ r. ⌜ 1048576 ≡ length r ⌝ }
