@@ -522,7 +522,7 @@ def skip_answers(judges):
 
 
 def reader_answers(judges, tests):
-    return rows.reader_answers(judges, list(rows.reader_rows()) + [('the published tests of thrift 0.24.0', tests.reads)])
+    return rows.reader_answers(judges, list(rows.reader_rows()) + list(rows.skip_rows()) + [('the published tests of thrift 0.24.0', tests.reads)])
 
 
 def writer_answers(judges, tests):

@@ -412,10 +412,11 @@ def compare(row, told, made, clean, whole):
 # ------------------------------------------------------------------ rows of the reader's calls
 
 class Read:
-    """`refused` has what the rules refuse and the crate does not: the number by the call's index. A published test has a name, and the values that it wants,
+    """`refused` has what the rules refuse and the crate does not: the number by the call's index; `ruled` the rules' answer where they accept and the crate does not. A published test has a name, and the values that it wants,
     without places, or the refusals of which its last call gives one."""
 
-    def __init__(self, data, calls, limits=WIDE, number=None, published=None, refused=None, wanted=None, kinds=None):
+    def __init__(self, data, calls, limits=WIDE, number=None, published=None, refused=None, wanted=None, kinds=None, ruled=None):
+        self.ruled = ruled or {}
         self.data, self.calls, self.limits, self.number, self.published = data, list(calls), limits, number, published
         self.refused, self.answers, self.wanted, self.kinds = dict(refused or {}), {}, wanted, kinds
 
@@ -470,6 +471,21 @@ def reader_rows():
         for limits in ((65, 0, 0), (64, MOST + 1, 0), (64, 0, MOST + 1), (1 << 63, 4294967295, 0)) for c in others + [('bool',), ('end',), ('skip', 5), ('skip', 0)]]
 
 
+def skip_rows():
+    """(title, rows): skips where the crate does otherwise, D1 to D6. The rules decide: they refuse, or accept all of the bytes."""
+    refuse = lambda number, why, data, kind, depth=64: Read(bytes.fromhex(data), [('skip', kind), ('i8',)], (depth, MOST, MOST), number, refused={0: why})
+    begun = lambda data, depth: Read(bytes.fromhex(data), [('begin',), ('skip', 9), ('end',)], (depth, MOST, MOST), 'D4', refused={1: DEPTH})
+    accept = lambda data, kind: Read(bytes.fromhex(data), [('skip', kind)], number='D5', ruled={0: str(len(data) // 2)})
+    yield 'skip: a map with values of type Stop', [refuse('D1', BAD_TYPE, data, 11) for data in ('0130', '01107f', '013007', '0180ffffffff07', '02d0')]
+    yield 'skip: lists, sets and maps count as structs do', [refuse('D2', DEPTH, data, kind, 0) for data, kind in (('03', 9), ('03', 10), ('00', 11))] + [
+        refuse('D3', DEPTH, data, kind, 1) for data, kind in (('190300', 12), ('1c00', 9), ('1b00', 10))] + [begun('03', 1), begun('19' * 63 + '03', 64)]
+    yield 'skip: a scalar in the 64th container', [accept(data, kind) for data, kind in (
+        ('19' * 63 + '1300', 9), ('19' * 63 + '1101', 9), ('1c' * 63 + '11' + '00' * 64, 12), ('1c' * 63 + '1305' + '00' * 64, 12))]
+    yield 'skip: a Stop element in the 64th container', [refuse('D6', BAD_TYPE, '19' * 63 + '10', 9), refuse('D6', BAD_TYPE, '1a' * 63 + '10', 10)]
+    yield 'headers that only the crate\'s message limit refuses (D7), here and asked without it', [
+        Read(bytes.fromhex(data), [call]) for data, call in (('f78180a006', ('list',)), ('f381808032', ('set',)), ('8180c801dd', ('map',)))]
+
+
 def spoken(call, words):
     """A call's answer in the crate's words, `VALUE@PLACE`, as the port says it."""
     value, place = words.rsplit('@', 1)
@@ -495,14 +511,14 @@ def reader_answers(judges, groups):
     rows = [row for _, rs in groups for row in rs]
     live = [row for row in rows if row.number != '-']
     for row in rows:
-        row.answers = {k: f'refused {n}' for k, n in row.refused.items()}
+        row.answers = {k: f'refused {n}' for k, n in row.refused.items()} | row.ruled
     whole = dict(zip(map(id, live), judges.row_words([row.ask(()) for row in live])))
     while live:
         # A row up to its first refusal; then again without the refused call, which is to have changed nothing.
         again = []
-        for row, both in zip(live, judges.row_words([row.ask(row.refused) for row in live])):
+        for row, both in zip(live, judges.row_words([row.ask(row.refused | row.ruled) for row in live])):
             told = agree(row.calls, *[w.split(' ; ')[0] for w in both]).split()
-            indices = [k for k in range(len(row.calls)) if k not in row.refused]
+            indices = [k for k in range(len(row.calls)) if k not in row.refused | row.ruled]
             pending = False
             for k, words in zip(indices, [] if told == ['#'] else told):
                 call = row.calls[k]
