@@ -1,9 +1,10 @@
 #!/usr/bin/env python3
-"""make.py CRATE_SRC HARNESS [WORK]
+"""make.py CRATE_SRC HARNESS PUBLISHED [WORK]
 
-Makes the cases of crates/vectors and their answers anew: its files stdin and stdout. No answer comes from the port.
-CRATE_SRC is the folder of the Rust crate's sources (with lib.rs), HARNESS the folder of the harness over it (build.sh, oracle.rs), WORK a
-folder to build in (a temporary one where it is left out; what an earlier run built there is used again). Needs rustc, and as and objcopy of GNU binutils.
+Makes the cases of crates/vectors and crates/vectors_out and their answers anew: their files stdin and stdout. No answer comes from the port.
+CRATE_SRC is the folder of the Rust crate's sources (with lib.rs), HARNESS the folder of the harness over it (build.sh, oracle.rs), PUBLISHED the file of
+the published tests of thrift 0.24.0's compact protocol (the `mod tests` of its compact.rs), WORK a folder to build in (a temporary one where it is left out;
+what an earlier run built there is used again). Needs rustc, and as and objcopy of GNU binutils. rows.py has the rows of calls.
 Where two judges have a word on a case they must agree; the run stops where they don't.
 """
 import os
@@ -13,8 +14,12 @@ import subprocess
 import sys
 import tempfile
 
+sys.dont_write_bytecode = True
+import published
+import rows
+
 HERE = os.path.dirname(os.path.abspath(__file__))
-CRATE = os.path.join(HERE, os.pardir, 'crates', 'vectors')
+CRATES = os.path.join(HERE, os.pardir, 'crates')
 END, LONG_VARINT, NO_ROOM = 1, 6, 14
 ROOM = 16
 
@@ -74,6 +79,13 @@ class Judges:
     def crate_writes(self, calls):
         lines = ''.join(f'W - 64 {call}\n' for call in calls)
         return [agree(*both) for both in zip(*[run([os.path.join(self.work, name)], lines) for name in ('oracle', 'oracle-chk')])]
+
+    def row_words(self, lines):
+        """The crate's answers to rows of calls: (release, with overflow checks) each."""
+        text = ''.join(line + '\n' for line in lines)
+        told = list(zip(*[run([os.path.join(self.work, name)], text) for name in ('oracle', 'oracle-chk')]))
+        assert len(told) == len(lines)
+        return told
 
     def assembler(self, numbers):
         """The bytes of each number by the directive .uleb128."""
@@ -509,17 +521,37 @@ def skip_answers(judges):
             yield f'skip {TYPES[name]} {tidy(row)}', f'refused {int(w[1:])}' if w.startswith('!') else w.rsplit('@', 1)[1]
 
 
-def main():
-    if len(sys.argv) not in (3, 4):
-        sys.exit(__doc__)
-    with tempfile.TemporaryDirectory() as spare:
-        judges = Judges(sys.argv[1], sys.argv[2], sys.argv[3] if len(sys.argv) == 4 else spare)
-        lines = [line for part in (read_answers, write_answers, utf8_answers, call_answers, skip_answers) for line in part(judges)]
-    with open(os.path.join(CRATE, 'stdin'), 'w') as cases, open(os.path.join(CRATE, 'stdout'), 'w') as answers:
+def reader_answers(judges, tests):
+    return rows.reader_answers(judges, list(rows.reader_rows()) + list(rows.skip_rows()) + [('the published tests of thrift 0.24.0', tests.reads)])
+
+
+def writer_answers(judges, tests):
+    groups = list(rows.plain_rows(signed_edges, DOUBLES)) + list(rows.refused_rows()) + [('the published tests of thrift 0.24.0', tests.writes)]
+    lines = list(rows.writer_answers(judges, groups))
+    numbers = sorted(rows.Writer.varints)
+    for n, data in zip(numbers, judges.assembler(numbers)):
+        agree(f'varint {n}', data, rows.Writer.varints[n])
+    return lines + [(f'# published: {name}: of calls that the port does not have', None) for name in tests.none]
+
+
+def write(crate, lines):
+    with open(os.path.join(CRATES, crate, 'stdin'), 'w') as cases, open(os.path.join(CRATES, crate, 'stdout'), 'w') as answers:
         for case, answer in lines:
             cases.write(case + '\n')
             answers.write(case + '\n' if answer is None else f'{case} = {answer}\n')
-    print(f'{sum(a is not None for _, a in lines)} cases')
+    print(f'{crate}: {sum(a is not None for _, a in lines)} cases')
+
+
+def main():
+    if len(sys.argv) not in (4, 5):
+        sys.exit(__doc__)
+    with tempfile.TemporaryDirectory() as spare:
+        judges = Judges(sys.argv[1], sys.argv[2], sys.argv[4] if len(sys.argv) == 5 else spare)
+        tests = published.Published(sys.argv[3])
+        parts = (read_answers, write_answers, utf8_answers, call_answers, skip_answers)
+        write('vectors', [line for part in parts for line in part(judges)] + list(reader_answers(judges, tests)))
+        write('vectors_out', writer_answers(judges, tests))
+    print(f'published tests: {tests.count}, with rows: {tests.count - len(tests.none)}')
 
 
 main()

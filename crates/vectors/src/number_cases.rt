@@ -1,27 +1,20 @@
 // The cases of crate numbers: a number read from bytes, or written as bytes.
-use crate::say;
-use crate::say::Answer;
-use crate::words;
 use numbers::Bits64;
 use numbers::Int16;
 use numbers::Varint32;
 use numbers::Varint64;
 use numbers::Wrote;
+use say::Answer;
+use words::DOUBLE;
+use words::I8;
+use words::I16;
+use words::I32;
+use words::I64;
 
-// The kinds of number, by their names' bytes.
+// The bare varints, by their names' bytes; the other kinds of number are in `words`.
 const U32: u64 = 0x753332;
 
 const U64: u64 = 0x753634;
-
-const I8: u64 = 0x6938;
-
-const I16: u64 = 0x693136;
-
-const I32: u64 = 0x693332;
-
-const I64: u64 = 0x693634;
-
-const DOUBLE: u64 = 0x646f75626c65;
 
 // `read KIND BYTES PLACE`: the number read at the place of these bytes, and the place behind it. Without a PLACE it is 0.
 pub(crate) fn read(line: &[u8]) {
@@ -109,7 +102,7 @@ enum Item {
 // An i16 is written as the i32 that it is; a double is given by its bits, in hex.
 fn item_of(kind: u64, line: &[u8]) -> Item {
     match kind {
-        U32 => Item::Narrow((words::number(line, 2) % 0x1_0000_0000) as u32),
+        U32 => Item::Narrow(words::number32(line, 2)),
         U64 => Item::Wide(words::number(line, 2)),
         I16 | I32 => Item::Narrow(zigzag::i32_to_zigzag(words::signed32(line, 2))),
         I64 => Item::Wide(zigzag::i64_to_zigzag(words::signed(line, 2))),
