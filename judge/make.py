@@ -1,7 +1,7 @@
 #!/usr/bin/env python3
 """make.py CRATE_SRC HARNESS PUBLISHED [WORK]
 
-Makes the cases of crates/vectors and crates/vectors_out and their answers anew: their files stdin and stdout. No answer comes from the port.
+Makes the cases of crates/vectors and their answers anew: its files stdin and stdout. No answer comes from the port.
 CRATE_SRC is the folder of the Rust crate's sources (with lib.rs), HARNESS the folder of the harness over it (build.sh, oracle.rs), PUBLISHED the file of
 the published tests of thrift 0.24.0's compact protocol (the `mod tests` of its compact.rs), WORK a folder to build in (a temporary one where it is left out;
 what an earlier run built there is used again). Needs rustc, and as and objcopy of GNU binutils. rows.py has the rows of calls.
@@ -19,7 +19,7 @@ import published
 import rows
 
 HERE = os.path.dirname(os.path.abspath(__file__))
-CRATES = os.path.join(HERE, os.pardir, 'crates')
+CRATE = os.path.join(HERE, os.pardir, 'crates', 'vectors')
 END, LONG_VARINT, NO_ROOM = 1, 6, 14
 ROOM = 16
 
@@ -534,12 +534,12 @@ def writer_answers(judges, tests):
     return lines + [(f'# published: {name}: of calls that the port does not have', None) for name in tests.none]
 
 
-def write(crate, lines):
-    with open(os.path.join(CRATES, crate, 'stdin'), 'w') as cases, open(os.path.join(CRATES, crate, 'stdout'), 'w') as answers:
+def write(lines):
+    with open(os.path.join(CRATE, 'stdin'), 'w') as cases, open(os.path.join(CRATE, 'stdout'), 'w') as answers:
         for case, answer in lines:
             cases.write(case + '\n')
             answers.write(case + '\n' if answer is None else f'{case} = {answer}\n')
-    print(f'{crate}: {sum(a is not None for _, a in lines)} cases')
+    print(f'{sum(a is not None for _, a in lines)} cases')
 
 
 def main():
@@ -549,8 +549,7 @@ def main():
         judges = Judges(sys.argv[1], sys.argv[2], sys.argv[4] if len(sys.argv) == 5 else spare)
         tests = published.Published(sys.argv[3])
         parts = (read_answers, write_answers, utf8_answers, call_answers, skip_answers)
-        write('vectors', [line for part in parts for line in part(judges)] + list(reader_answers(judges, tests)))
-        write('vectors_out', writer_answers(judges, tests))
+        write([line for part in parts for line in part(judges)] + list(reader_answers(judges, tests)) + writer_answers(judges, tests))
     print(f'published tests: {tests.count}, with rows: {tests.count - len(tests.none)}')
 
 

@@ -1,5 +1,5 @@
 """The published tests of thrift 0.24.0's compact protocol, read out of their own text: what each writes, the bytes it expects, what each reads, and what it
-expects of that. Each of the tests is a row of crates/vectors_out, of crates/vectors, or of both; or it is said why it is none.
+expects of that. Each of the tests is a row of crates/vectors, the writer's or the reader's or both; or it is said why it is none.
 """
 import re
 

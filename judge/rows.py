@@ -1,4 +1,4 @@
-"""Rows of calls, for crates/vectors_out (the writer's) and crates/vectors (the reader's), and their answers; those of the published tests among them.
+"""Rows of calls, the writer's and the reader's, for crates/vectors, and their answers; those of the published tests among them.
 
 A call is a tuple, ('field', 5, 1), a type being its number. A row has limits (depth, string, container), a room and calls. What each call answers
 is said by a model of the rules of docs/SCOPE.md, and by the crate in both builds wherever it has the call: they must agree. Where docs/DIFFERENCES.md has a

@@ -3,6 +3,7 @@
 ghost use Rattle.output.specs.Calls.{stopCall, boolCall, i8Call, intCall, doubleCall, uuidCall, bytesCall, stringCall};
 ghost use Rattle.rows.specs.Row.{writerOf};
 ghost use Rattle.rows.specs.Writes.{Made, fieldBy, itemsBy, pairsBy, messageBy};
+use output::Uuid;
 use rows::row;
 use rows::told;
 use rows::typed;
@@ -105,7 +106,7 @@ pub extern "C" fn tagrumzil_write_double(buf: &mut [u8], row: &mut [u64], bits: 
 }
 
 #[no_mangle]
-pub extern "C" fn tagrumzil_write_uuid(buf: &mut [u8], row: &mut [u64], uuid: &[u8; 16]) -> u8
+pub extern "C" fn tagrumzil_write_uuid(buf: &mut [u8], row: &mut [u64], uuid: &Uuid) -> u8
     ensures { λ r. ⌜ Made (now (row .entry)) (now (row .exit)) (now (buf .entry)) (now (buf .exit)) r (writerOf (now (row .entry))) (uuidCall (writerOf (now (row .entry))) (now (uuid .entry))) ⌝ }
 {
     let state = row::writer_of(row);

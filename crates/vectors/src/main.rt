@@ -3,7 +3,10 @@
 // The judges' answers, in the same form, are the file stdout.
 mod call_cases;
 mod number_cases;
+mod say;
 mod utf8_cases;
+mod words;
+mod writer;
 
 use libc::STDIN_FILENO;
 
@@ -22,6 +25,8 @@ const SKIP: u64 = 0x736b6970;
 
 const READER: u64 = 0x726561646572;
 
+const WRITER: u64 = 0x777269746572;
+
 fn answer(line: &[u8]) {
     match words::name(line, 0) {
         READ => number_cases::read(line),
@@ -31,6 +36,7 @@ fn answer(line: &[u8]) {
         CALL => call_cases::call(line),
         SKIP => call_cases::skip(line),
         READER => call_cases::row(line),
+        WRITER => writer::row(line),
         _ => say::text(b" ?"),
     }
 }

@@ -1,15 +1,17 @@
 // The cases of crate numbers: a number read from bytes, or written as bytes.
+use crate::say;
+use crate::say::Answer;
+use crate::words;
+use crate::words::DOUBLE;
+use crate::words::I8;
+use crate::words::I16;
+use crate::words::I32;
+use crate::words::I64;
 use numbers::Bits64;
 use numbers::Int16;
 use numbers::Varint32;
 use numbers::Varint64;
 use numbers::Wrote;
-use say::Answer;
-use words::DOUBLE;
-use words::I8;
-use words::I16;
-use words::I32;
-use words::I64;
 
 // The bare varints, by their names' bytes; the other kinds of number are in `words`.
 const U32: u64 = 0x753332;

@@ -1,4 +1,6 @@
 // The cases of crate utf8.
+use crate::say;
+use crate::words;
 
 // `utf8 BYTES`: whether these bytes pass.
 pub(crate) fn passes(line: &[u8]) {
