@@ -22,6 +22,7 @@ use input::DoneAnswer;
 use input::ReadDone;
 use input::TCompactInputProtocol;
 use skip::Skipped;
+use skip::skip_value;
 use types::FieldId;
 use types::Place;
 use types::TConfiguration;
@@ -143,38 +144,18 @@ fn note_struct(
     let mut last = FieldId(0);
     loop {
         match heads::read_field_begin(s, p, last) {
-            FieldHead::Stop(_) => {
-                return;
-            }
-            FieldHead::Refused(_) => {
-                return;
-            }
+            FieldHead::Stop(_) => return,
+            FieldHead::Refused(_) => return,
             FieldHead::Bool(b, id, next) => {
                 note_field(ids, kinds, rows, id, 1, truth_kind(b), 0, 0);
                 last = id;
                 p = next;
             }
-            FieldHead::Value(kind, id, next) => match skip::skip_value(
-                s,
-                next,
-                kind,
-                room,
-                limits,
-            ) {
-                Skipped::Refused(_) => {
-                    return;
-                }
+            FieldHead::Value(kind, id, next) => match skip_value(s, next, kind, room, limits) {
+                Skipped::Refused(_) => return,
                 Skipped::Done(e) => {
-                    note_field(
-                        ids,
-                        kinds,
-                        rows,
-                        id,
-                        types::type_to_u8(kind),
-                        HERE,
-                        next.0,
-                        e.0,
-                    );
+                    let code = types::type_to_u8(kind);
+                    note_field(ids, kinds, rows, id, code, HERE, next.0, e.0);
                     last = id;
                     p = e;
                 }
@@ -204,7 +185,7 @@ fn pick_on(
     ensures { λ r. ⌜ (r ≡ asDone (forgets (onStruct (now (s .entry)) state))) × (now (rows .exit) ≡ written (now (ids .entry)) (now (kinds .entry)) (state .place .0) (onStruct (now (s .entry)) state .said) (now (rows .entry))) ⌝ }
 {
     let room = state.limits.depth - state.depth;
-    match skip::skip_value(s, state.place, TType::Struct, room, state.limits) {
+    match skip_value(s, state.place, TType::Struct, room, state.limits) {
         Skipped::Refused(why) => ReadDone {
             answer: DoneAnswer::Refused(why),
             state,

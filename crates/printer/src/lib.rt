@@ -366,12 +366,8 @@ fn print_fields(
     let mut q = to;
     loop {
         match heads::read_field_begin(s, p, last) {
-            FieldHead::Stop(e) => {
-                return Printed::Went(e, lines::put_stop(out, q));
-            }
-            FieldHead::Refused(why) => {
-                return Printed::Stopped(why, q);
-            }
+            FieldHead::Stop(e) => return Printed::Went(e, lines::put_stop(out, q)),
+            FieldHead::Refused(why) => return Printed::Stopped(why, q),
             FieldHead::Bool(b, id, next) => {
                 let named = lines::put_field(out, q, id, TType::Bool);
                 q = lines::put_scalar(out, named, Scalar::Bool(b));
@@ -385,9 +381,7 @@ fn print_fields(
                         last = id;
                         p = e;
                     }
-                    Printed::Stopped(why, behind) => {
-                        return Printed::Stopped(why, behind);
-                    }
+                    Printed::Stopped(why, behind) => return Printed::Stopped(why, behind),
                 }
             }
         }
