@@ -52,6 +52,12 @@ pub fn bits8(n: i8) -> u8
     if 0 <= n { n as u8 } else { !((!n) as u8) }
 }
 
+pub fn bits16(n: i16) -> u16
+    ensures { λ r. ⌜ r ≡ ofZ w16 n ⌝ }
+{
+    if 0 <= n { n as u16 } else { !((!n) as u16) }
+}
+
 pub fn bits32(n: i32) -> u32
     ensures { λ r. ⌜ r ≡ ofZ w32 n ⌝ }
 {
