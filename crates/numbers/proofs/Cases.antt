@@ -3,21 +3,20 @@ use mathlib.Core.Path.{_≡_, refl, sym, ap, _∙_}
 use mathlib.Core.List.{List, [], _∷_}
 use mathlib.Core.Bool.{Bool, true, false}
 use Prim.Native.Nat.{ℕ, suc, _+_, _-_, _*_, _/_, _%_, _^_, _≤_, _<_}
-use native.Mathlib.Nat.{pow-le-pow-right, lt-of-lt-of-le}
 use native.Mathlib.Omega.{arith}
 use borrow.Author.Needs.{sfits-of}
 use borrow.Author.Tests.{lt-ltb, le-ltb}
-use lib.Dec.{ltb, lit<}
+use lib.Dec.{ltb}
 use lib.IntN.{ℤ}
 use lib.ListN.{length, getD, set}
-use lib.Seq.{slice, slice-empty, slice-cons, length-slice}
+use lib.Seq.{sets, length-sets, slice, slice-empty}
 use mir.Syntax.{w8, w16, w32, w64}
 use mir.Val.{toZ, ofZ, Fits}
 use mir.Facts.{toZ-ofZ}
 use Rattle.types.specs.Refusals.{END, NO-ROOM}
 use Rattle.numbers.specs.Varint.{fewest}
 use Rattle.zigzag.specs.Zigzag.{unzigzag}
-use Rattle.numbers.specs.Fixed.{little, littleOf, eight}
+use Rattle.numbers.specs.Fixed.{little, littleOf, four, eight}
 use Rattle.numbers.specs.Answers.{varint32At, signed16At, bits64At, wroteAt, putAt}
 use Rattle.numbers.specs.declared.Varint32.{Varint32}
 use Rattle.numbers.specs.declared.Varint32.the-variants as V32
@@ -25,9 +24,10 @@ use Rattle.numbers.specs.declared.Int16.the-variants as I16
 use Rattle.numbers.specs.declared.Bits64.the-variants as B64
 use Rattle.numbers.specs.declared.Wrote.the-variants as W
 use Rattle.numbers.proofs.Fewest.{fewest-one, fewest-more, fewest-len}
-use Rattle.numbers.proofs.Fixed.{length-eight, little-below, bytes-slice}
+use Rattle.numbers.proofs.Fixed.{length-eight, little-four}
+use Rattle.numbers.proofs.Found.{by-lt}
 use Rattle.numbers.proofs.Sixteen.{signed16-is}
-use Rattle.numbers.proofs.Put.{wrote-not, put-not, roomy, scant, Storing, storing, next-in, stored, all-to, all-in}
+use Rattle.numbers.proofs.Put.{wrote-to, put-in, wrote-not, put-not, roomy, scant, Storing, storing, next-in, stored, all-to, all-in, sets-append}
 
 -- a 16-bit number as it is read
 module _ (s : List ℕ) (at : ℕ) (r : Varint32) (e : r ≡ varint32At s at) where
@@ -42,16 +42,15 @@ pub ruleset i16-cases = (i16-refused, i16-got, toZ-ofZ, sfits-of)
 
 -- the test for room
 module _ (have at need : ℕ) where
-  pub lacks-all : have < need → true ≡ ltb have (at + need)
+  pub lacks-all : have < at → true ≡ ltb have (at + need)
   lacks-all h = sym (lt-ltb have (at + need) (omega arith))
 
-  pub lacks-behind : need ≤ have → have - need < at → true ≡ ltb have (at + need)
-  lacks-behind h k = sym (lt-ltb have (at + need) (omega arith))
+  pub lacks-behind : at ≤ have → ltb (have - at) need ≡ ltb have (at + need)
+  lacks-behind h =
+      by-lt (have - at) need (λ k. rw (lt-ltb (have - at) need k, lt-ltb have (at + need) (omega arith)))
+      (λ k. rw (le-ltb (have - at) need k, le-ltb have (at + need) (omega arith)))
 
-  pub lacks-none : need ≤ have → at ≤ have - need → false ≡ ltb have (at + need)
-  lacks-none h k = sym (le-ltb have (at + need) (omega arith))
-
-pub ruleset room-cases = (lacks-all, lacks-behind, lacks-none)
+pub ruleset room-cases = (lacks-all, lacks-behind)
 
 -- what a writer of bs does after that test
 module _ (short : Bool) (buf : List ℕ) (at need : ℕ) (bs : List ℕ) (e : short ≡ ltb (length buf) (at + need)) (l : need ≡ length bs) where
@@ -134,69 +133,84 @@ module _ (buf₀ : List ℕ) (at : ℕ) (bs buf : List ℕ) (p rest : ℕ) (st :
 
 pub ruleset varint-cases = (short-answer, short-left, begun, group-in, group-fits, group-next, last-in, last-fits, last-to, last-left, last-same)
 
--- the eight bytes, written: rest is what is left of the number
-more-left : (p end : ℕ) → p < end → end - p ≡ suc (end - (p + 1))
-more-left p end h = omega arith
+-- the eight bytes, written: four and then the four above them
+pub four-left : (buf : List ℕ) (at n : ℕ) → set (set (set (set buf at (n % 256)) (at + 1) (n / 2 ^ 8 % 256)) (at + 2) (n / 2 ^ 16 % 256)) (at + 3) (n / 2 ^ 24 % 256) ≡ sets buf at (four n)
+unfolding four
+four-left buf at n =
+    let one : at + 1 ≡ suc at = omega arith in
+    let two : at + 2 ≡ suc (suc at) = omega arith in
+    let three : at + 3 ≡ suc (suc (suc at)) = omega arith in
+    let second : n / 2 ^ 16 ≡ n / 256 / 256 = omega arith in
+    let third : n / 2 ^ 24 ≡ n / 256 / 256 / 256 = omega arith in
+    rw (one, two, three, second, third)
 
-module _ (buf₀ : List ℕ) (at : ℕ) (bs buf : List ℕ) (p end rest : ℕ) (st : Storing buf₀ at bs buf p (littleOf (end - p) rest)) where
-  pub byte-of : p < end → littleOf (end - p) rest ≡ (rest % 256) ∷ littleOf (end - (p + 1)) (rest / 256)
-  byte-of h = rw (more-left p end h)
+-- the room for both
+module _ (short : Bool) (have at : ℕ) (e : short ≡ ltb have (at + 8)) (f : short ≡ false) where
+  pub low-in : at + 4 ≤ have
+  low-in = omega (arith, roomy short have at 8 e f)
 
-  pub eight-in : p < end → p < length buf
-  eight-in h = next-in st _ _ (byte-of h)
+  pub high-in : (l : ℕ) → l ≡ have → at + 4 + 4 ≤ l
+  high-in l g = omega (arith, roomy short have at 8 e f)
 
-  pub eight-next : p < end → Storing buf₀ at bs (set buf p (rest % 256)) (p + 1) (littleOf (end - (p + 1)) (rest / 256))
-  eight-next h = stored st _ _ (byte-of h)
+  pub high-fits : have < 2 ^ 64 → Fits w64 (at + 4)
+  high-fits h = record { fits = omega (arith, low-in) }
 
-  none-left : end ≤ p → littleOf (end - p) rest ≡ []
-  none-left h = let e : end - p ≡ 0 = omega arith in rw e
+module _ (short : Bool) (buf : List ℕ) (at n : ℕ) (e : short ≡ ltb (length buf) (at + 8)) (f : short ≡ false) where
+  pub eight-to : W.To (at + 8) ≡ wroteAt buf at (eight n)
+  unfolding eight
+  eight-to = wrote-to buf at (eight n) (roomy short (length buf) at 8 e f)
 
-  pub eight-to : end ≤ p → W.To p ≡ wroteAt buf₀ at bs
-  eight-to h = all-to st (none-left h)
+  pub eight-left : (low both : List ℕ) → low ≡ sets buf at (four n) → both ≡ sets low (at + 4) (four (n / 2 ^ 32)) → both ≡ putAt buf at (eight n)
+  unfolding eight four
+  eight-left low both g h =
+      let above : n / 2 ^ 32 ≡ n / 256 / 256 / 256 / 256 = omega arith in
+      h
+      ∙ rw (g, above) (sym (sets-append buf at (littleOf 4 n) (littleOf 4 (n / 256 / 256 / 256 / 256))))
+      ∙ put-in buf at (eight n) (roomy short (length buf) at 8 e f)
 
-  pub eight-left : end ≤ p → buf ≡ putAt buf₀ at bs
-  eight-left h = all-in st (none-left h)
+pub length-low : (low buf : List ℕ) (at n : ℕ) → low ≡ sets buf at (four n) → length low ≡ length buf
+length-low low buf at n e = ap length e ∙ length-sets buf at (four n)
 
-pub eight-begun : (short : Bool) (buf : List ℕ) (at n : ℕ) → short ≡ ltb (length buf) (at + 8) → short ≡ false → Storing buf at (eight n) buf at (littleOf (at + 8 - at) n)
-unfolding eight
-eight-begun short buf at n e f =
-    let k : at + 8 - at ≡ 8 = omega arith in
-    rw k (begun short buf at 8 (littleOf 8 n) e refl f)
+pub ruleset eight-cases = (short-answer, short-left, eight-long, low-in, high-in, high-fits, eight-to, eight-left, length-low, room-fits)
 
-pub ruleset eight-cases = (short-answer, short-left, eight-long, eight-begun, eight-in, eight-next, eight-to, eight-left, room-fits)
+-- the eight bytes, read: four and then the four above them
+module _ (s : List ℕ) (at : ℕ) (known : (n : ℕ) → Fits w8 (getD s n 0)) (a b : ℕ) (ea : a ≡ getD s at 0) (eb : b ≡ getD s (at + 1) 0) where
+  pub two-fit : Fits w64 (a + b * 2 ^ 8 % 2 ^ 64)
+  two-fit = record { fits = omega (arith, known at .fits, known (at + 1) .fits) }
 
--- the eight bytes, read: value is that of the bytes from p to the end
+  module _ (c : ℕ) (ec : c ≡ getD s (at + 2) 0) where
+    pub three-fit : Fits w64 (a + b * 2 ^ 8 % 2 ^ 64 + c * 2 ^ 16 % 2 ^ 64)
+    three-fit = record { fits = omega (arith, known at .fits, known (at + 1) .fits, known (at + 2) .fits) }
+
+    module _ (d : ℕ) (ed : d ≡ getD s (at + 3) 0) where
+      pub four-below : a + b * 2 ^ 8 % 2 ^ 64 + c * 2 ^ 16 % 2 ^ 64 + d * 2 ^ 24 % 2 ^ 64 < 2 ^ 32
+      four-below = omega (arith, known at .fits, known (at + 1) .fits, known (at + 2) .fits, known (at + 3) .fits)
+
+      pub four-fit : Fits w64 (a + b * 2 ^ 8 % 2 ^ 64 + c * 2 ^ 16 % 2 ^ 64 + d * 2 ^ 24 % 2 ^ 64)
+      four-fit = record { fits = omega (arith, four-below) }
+
+      pub four-is : at + 4 ≤ length s → a + b * 2 ^ 8 % 2 ^ 64 + c * 2 ^ 16 % 2 ^ 64 + d * 2 ^ 24 % 2 ^ 64 ≡ little (slice at (at + 4) s)
+      four-is h =
+          let none : little (slice (at + 4) (at + 4) s) ≡ 0 = rw slice-empty in
+          omega (arith, little-four s at (at + 4) (omega arith) h, known at .fits, known (at + 1) .fits, known (at + 2) .fits, known (at + 3) .fits)
+
+pub ruleset read-four-cases = (two-fit, three-fit, four-below, four-fit, four-is)
+
 pub le-short : (short : Bool) (s : List ℕ) (at : ℕ) → short ≡ ltb (length s) (at + 8) → short ≡ true → B64.Refused END ≡ bits64At s at
 unfolding bits64At
 le-short short s at e t = rw (← e, t)
 
-pub le-start : (s : List ℕ) (e : ℕ) → 0 ≡ little (slice e e s)
-le-start s e = rw slice-empty
+module _ (short : Bool) (s : List ℕ) (at : ℕ) (e : short ≡ ltb (length s) (at + 8)) (f : short ≡ false) where
+  pub le-got : (low high : ℕ) → low ≡ little (slice at (at + 4) s) → high ≡ little (slice (at + 4) (at + 4 + 4) s) → high < 2 ^ 32 → B64.Got (low + high * 2 ^ 32 % 2 ^ 64) (at + 8) ≡ bits64At s at
+  unfolding bits64At
+  le-got low high g h i =
+      let room : at + 8 ≤ length s = roomy short (length s) at 8 e f in
+      let end : at + 4 + 4 ≡ at + 8 = omega arith in
+      let above : high ≡ little (slice (at + 4) (at + 8) s) = rw end at h in
+      let none : little (slice (at + 4) (at + 4) s) ≡ 0 = rw slice-empty in
+      let whole = little-four s at (at + 8) (omega arith) room in
+      let part = little-four s at (at + 4) (omega arith) (omega arith) in
+      let sum : low + high * 2 ^ 32 % 2 ^ 64 ≡ little (slice at (at + 8) s) = omega arith in
+      rw (le-ltb (length s) (at + 8) room, sum)
 
-module _ (s : List ℕ) (at p value b : ℕ) (h : at < p) (i : p ≤ at + 8) (j : at + 8 ≤ length s) (f : value ≡ little (slice p (at + 8) s)) (g : b ≡ getD s (p - 1) 0) where
-  pub le-turn : value * 256 + b ≡ little (slice (p - 1) (at + 8) s)
-  le-turn =
-      let k : suc (p - 1) ≡ p = omega arith in
-      let l = slice-cons (p - 1) (at + 8) s 0 (omega arith) j ∙ ap (λ (n : ℕ). getD s (p - 1) 0 ∷ slice n (at + 8) s) k in
-      omega (arith, ap little l)
-
-  module _ (known : (n : ℕ) → Fits w8 (getD s n 0)) where
-    sum-below : value * 256 + b < 2 ^ 64
-    sum-below =
-        let l = length-slice (p - 1) (at + 8) s j in
-        let k : length (slice (p - 1) (at + 8) s) ≤ 8 = omega arith in
-        rw le-turn (lt-of-lt-of-le (little-below (slice (p - 1) (at + 8) s) (bytes-slice (p - 1) (at + 8) s (λ n. known n .fits))) (pow-le-pow-right (lit< tt) k))
-
-    pub le-product : Fits w64 (value * 256)
-    le-product = record { fits = omega (arith, sum-below) }
-
-    pub le-sum : Fits w64 (value * 256 + b)
-    le-sum = record { fits = sum-below }
-
-pub le-got : (s : List ℕ) (at p value : ℕ) → at + 8 ≤ length s → at ≤ p → p ≤ at → value ≡ little (slice p (at + 8) s) → B64.Got value (at + 8) ≡ bits64At s at
-unfolding bits64At
-le-got s at p value h i j f =
-    let e : p ≡ at = omega arith in
-    rw (le-ltb (length s) (at + 8) h, f, e)
-
-pub ruleset le-cases = (le-short, le-start, le-turn, le-product, le-sum, le-got, room-behind, room-fits)
+pub ruleset le-cases = (le-short, le-got, low-in, high-in, high-fits, room-fits)

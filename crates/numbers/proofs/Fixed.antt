@@ -6,8 +6,8 @@ use native.Mathlib.Nat.{pow-suc, div-lt-iff-lt-mul}
 use native.Mathlib.Omega.{arith}
 use borrow.Author.Tests.{lt-ltb, le-ltb}
 use lib.Dec.{lit<}
-use lib.ListN.{length, take, drop, length-append, length-drop}
-use lib.Seq.{slice, length-slice, getD-drop, take-at}
+use lib.ListN.{length, getD, take, drop, length-append, length-drop}
+use lib.Seq.{slice, slice-cons, length-slice, getD-drop, take-at}
 use Rattle.numbers.specs.Varint.{got}
 use Rattle.numbers.specs.Fixed.{little, littleOf, eight}
 use Rattle.numbers.specs.Answers.{littleAt}
@@ -50,6 +50,18 @@ bytes-take (suc n) (b ∷ bs) h = bytes-cons b (take n bs) (h 0) (bytes-take n b
 
 pub bytes-slice : (p e : ℕ) (s : List ℕ) → Bytes s → Bytes (slice p e s)
 bytes-slice p e s h i = rw getD-drop (bytes-take e s h (p + i))
+
+-- the first byte's share of a part, and that of the first four
+little-first : (s : List ℕ) (p q e : ℕ) → q ≡ p + 1 → p < e → e ≤ length s → little (slice p e s) ≡ getD s p 0 + 256 * little (slice q e s)
+little-first s p q e i h l = let j : q ≡ suc p = omega arith in rw (slice-cons p e s 0 h l, j)
+
+pub little-four : (s : List ℕ) (at e : ℕ) → at + 4 ≤ e → e ≤ length s → little (slice at e s) ≡ getD s at 0 + 2 ^ 8 * getD s (at + 1) 0 + 2 ^ 16 * getD s (at + 2) 0 + 2 ^ 24 * getD s (at + 3) 0 + 2 ^ 32 * little (slice (at + 4) e s)
+little-four s at e h l =
+    let a = little-first s at (at + 1) e refl (omega arith) l in
+    let b = little-first s (at + 1) (at + 2) e (omega arith) (omega arith) l in
+    let c = little-first s (at + 2) (at + 3) e (omega arith) (omega arith) l in
+    let d = little-first s (at + 3) (at + 4) e (omega arith) (omega arith) l in
+    omega arith
 
 -- the part that a known list starts
 slice-start : (at k : ℕ) (s bs rest : List ℕ) → length bs ≡ k → drop at s ≡ bs ++ rest → slice at (at + k) s ≡ bs

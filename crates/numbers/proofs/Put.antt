@@ -80,7 +80,7 @@ module _ {buf₀ : List ℕ} {at : ℕ} {bs buf : List ℕ} {p : ℕ} {left : Li
     pub all-in : buf ≡ putAt buf₀ at bs
     all-in = (rw e at (st .puts)) ∙ put-in buf₀ at bs (st .room)
 
-sets-append : (buf : List ℕ) (at : ℕ) (bs cs : List ℕ) → sets buf at (bs ++ cs) ≡ sets (sets buf at bs) (at + length bs) cs
+pub sets-append : (buf : List ℕ) (at : ℕ) (bs cs : List ℕ) → sets buf at (bs ++ cs) ≡ sets (sets buf at bs) (at + length bs) cs
 sets-append buf at [] cs = rw add-zero
 sets-append buf at (b ∷ bs) cs = sets-append (set buf at b) (suc at) bs cs ∙ rw (suc-add, add-suc)
 

@@ -12,6 +12,9 @@ abbrev pub littleOf : ℕ → ℕ → List ℕ
 littleOf zero n = []
 littleOf (suc k) n = (n % 256) ∷ littleOf k (n / 256)
 
--- the 8 bytes of 64 bits
+-- the 4 lowest, and the 8 bytes of 64 bits
+unfoldable pub four : ℕ → List ℕ
+four n = littleOf 4 n
+
 unfoldable pub eight : ℕ → List ℕ
 eight n = littleOf 8 n

@@ -1,11 +1,12 @@
 // The numbers of the compact protocol in bytes: varints of 32 and 64 bits, i16, and eight little-endian bytes.
 ghost use mathlib.Core.List.{[], _∷_};
 ghost use mathlib.Core.Path.{_≡_};
-ghost use Prim.Native.Nat.{_+_};
+ghost use Prim.Native.Nat.{_+_, _≤_, _<_};
 ghost use lib.Dec.{ltb};
 ghost use lib.ListN.{length};
+ghost use lib.Seq.{sets, slice};
 ghost use Rattle.numbers.specs.Varint.{fewest};
-ghost use Rattle.numbers.specs.Fixed.{eight};
+ghost use Rattle.numbers.specs.Fixed.{little, four, eight};
 ghost use Rattle.numbers.specs.Answers.{varint32At, varint64At, signed16At, bits64At, wroteAt, putAt};
 
 // A number and the place behind it, or the number of a refusal: END or LONG VARINT.
@@ -112,31 +113,30 @@ pub fn read_i16(s: &[u8], at: usize) -> Int16
 fn lacks_room(have: usize, at: usize, need: usize) -> bool
     ensures { λ r. ⌜ r ≡ ltb have (at + need) ⌝ }
 {
-    if have < need {
+    if have < at {
         return true;
     }
-    if have - need < at {
-        return true;
-    }
-    false
+    have - at < need
 }
 
-// The eight bytes from a place on, the last of them the highest.
+// The number of the four bytes from a place on, the last of them the highest.
+fn read_four(s: &[u8], at: usize) -> u64
+    requires { ⌜ at + 4 ≤ length (now s) ⌝ }
+    ensures { λ r. ⌜ (r ≡ little (slice at (at + 4) (now (s .entry)))) × (r < 0x1_0000_0000) ⌝ }
+{
+    wide64(s[at]) + (wide64(s[at + 1]) << 8) + (wide64(s[at + 2]) << 16) + (wide64(s[at + 3]) << 24)
+}
+
+// The eight bytes from a place on, the last of them the highest. Without a loop they are one load.
 pub fn read_le64(s: &[u8], at: usize) -> Bits64
     ensures { λ r. ⌜ r ≡ bits64At (now (s .entry)) at ⌝ }
 {
     if lacks_room(s.len(), at, 8) {
         return Bits64::Refused(types::END);
     }
-    let end = at + 8;
-    let mut value: u64 = 0;
-    let mut p = end;
-    while at < p {
-        p = p - 1;
-        let b = wide64(s[p]);
-        value = value * 256 + b;
-    }
-    Bits64::Got(value, end)
+    let low = read_four(s, at);
+    let high = read_four(s, at + 4);
+    Bits64::Got(low + (high << 32), at + 8)
 }
 
 // One byte at a place of the buffer. Where a writer finds no room the buffer keeps its bytes.
@@ -188,20 +188,25 @@ pub fn write_varint32(buf: &mut [u8], at: usize, n: u32) -> Wrote
     write_varint64(buf, at, n as u64)
 }
 
-// The eight bytes of the bits, lowest first.
+// The four lowest bytes of a number, lowest first.
+fn write_four(buf: &mut [u8], at: usize, n: u64)
+    requires { ⌜ at + 4 ≤ length (now buf) ⌝ }
+    ensures { λ r. ⌜ now (buf .exit) ≡ sets (now (buf .entry)) at (four n) ⌝ }
+{
+    buf[at] = (n % 256) as u8;
+    buf[at + 1] = ((n >> 8) % 256) as u8;
+    buf[at + 2] = ((n >> 16) % 256) as u8;
+    buf[at + 3] = ((n >> 24) % 256) as u8;
+}
+
+// The eight bytes of the bits, lowest first. Without a loop they are one store.
 pub fn write_le64(buf: &mut [u8], at: usize, n: u64) -> Wrote
     ensures { λ r. ⌜ (r ≡ wroteAt (now (buf .entry)) at (eight n)) × (now (buf .exit) ≡ putAt (now (buf .entry)) at (eight n)) ⌝ }
 {
     if lacks_room(buf.len(), at, 8) {
         return Wrote::Refused(types::NO_ROOM);
     }
-    let end = at + 8;
-    let mut rest = n;
-    let mut p = at;
-    while p < end {
-        buf[p] = (rest % 256) as u8;
-        rest = rest / 256;
-        p = p + 1;
-    }
-    Wrote::To(p)
+    write_four(buf, at, n);
+    write_four(buf, at + 4, n >> 32);
+    Wrote::To(at + 8)
 }

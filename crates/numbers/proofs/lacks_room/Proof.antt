@@ -8,8 +8,5 @@ returns c = search room-cases
 returns-2 : tie.Need-returns-2
 returns-2 c = search room-cases
 
-returns-3 : tie.Need-returns-3
-returns-3 c = search room-cases
-
 pub lacks-room-spec : {M : Type 1} → statement M
-lacks-room-spec = tie.close (tie.spec returns returns-2 returns-3)
+lacks-room-spec = tie.close (tie.spec returns returns-2)
