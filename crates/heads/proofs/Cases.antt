@@ -17,14 +17,11 @@ use mir.Syntax.{w8, w32, w64}
 use mir.Val.{toZ, Fits}
 use mir.Facts.{toZ-ofZ}
 use Rattle.types.specs.Refusals.{END, BAD-VERSION, BAD-TYPE, BAD-BOOL, SIZE-LIMIT, NEGATIVE-SIZE, BAD-UTF8}
-use Rattle.types.specs.Codes.{elementType, fieldType, messageByNumber}
+use Rattle.types.specs.Codes.{elementType, messageByNumber}
 use Rattle.types.specs.declared.TType.{TType}
 use Rattle.types.specs.declared.TType.the-variants as T
 use Rattle.types.specs.declared.TypeRead.{TypeRead}
 use Rattle.types.specs.declared.TypeRead.the-variants as R
-use Rattle.types.specs.declared.FieldType.{FieldType}
-use Rattle.types.specs.declared.FieldType.the-variants as FT
-use Rattle.types.specs.declared.FieldId.{FieldId}
 use Rattle.types.specs.declared.Place.{Place}
 use Rattle.types.specs.declared.TMessageType.{TMessageType}
 use Rattle.types.specs.declared.MessageTypeRead.{MessageTypeRead}
@@ -46,8 +43,8 @@ use Rattle.numbers.proofs.Got.{found32, found64, within32}
 use Rattle.numbers.proofs.Found.{take-drop, within}
 use Rattle.utf8.specs.Utf8.{utf8}
 use Rattle.heads.specs.Reader.{Reader, done, refuse, andThen, provided, byte, some, readAt}
-use Rattle.heads.specs.Heads.{int8, number32, number64, int16, int32, int64, double, uuid, truth, binary, text, typed, counted, listed, items, mapped, pairs, fieldId, ofType, field, Field, stop, bool, value, Message, messageTyped, named, versioned, message}
-use Rattle.heads.specs.Answers.{place, idOf, seqOf, toI8, int8At, toI16, int16At, toI32, int32At, toI64, int64At, toDouble, doubleAt, toBool, truthAt, toPart, someAt, uuidAt, binaryAt, textAt, whyOf, countWhy, toList, listedAt, itemsAt, toMap, mappedAt, pairsAt, toId, fieldIdAt, toField, fieldAt, toMessage, namedAt, kindAt, messageAt}
+use Rattle.heads.specs.Heads.{int8, number32, number64, int16, int32, int64, double, uuid, truth, binary, text, typed, counted, listed, items, mapped, pairs, Message, messageTyped, named, versioned, message}
+use Rattle.heads.specs.Answers.{place, seqOf, toI8, int8At, toI16, int16At, toI32, int32At, toI64, int64At, toDouble, doubleAt, toBool, truthAt, toPart, someAt, uuidAt, binaryAt, textAt, whyOf, countWhy, toList, listedAt, itemsAt, toMap, mappedAt, pairsAt, toMessage, namedAt, kindAt, messageAt}
 use Rattle.heads.specs.declared.I8Read.the-variants as I8
 use Rattle.heads.specs.declared.I16Read.{I16Read}
 use Rattle.heads.specs.declared.I16Read.the-variants as I16
@@ -62,10 +59,6 @@ use Rattle.heads.specs.declared.ListHead.{ListHead}
 use Rattle.heads.specs.declared.ListHead.the-variants as L
 use Rattle.heads.specs.declared.MapHead.{MapHead}
 use Rattle.heads.specs.declared.MapHead.the-variants as M
-use Rattle.heads.specs.declared.FieldHead.{FieldHead}
-use Rattle.heads.specs.declared.FieldHead.the-variants as F
-use Rattle.heads.specs.declared.IdRead.{IdRead}
-use Rattle.heads.specs.declared.IdRead.the-variants as Id
 use Rattle.heads.specs.declared.MessageHead.{MessageHead}
 use Rattle.heads.specs.declared.MessageHead.the-variants as H
 use Rattle.types.proofs.Tables.{Misses, missed}
@@ -520,64 +513,6 @@ module _ (s : List ℕ) (lim : TConfiguration) (at : ℕ) (r : Varint32) (e : r 
     map-pairs q z f = f ∙ sym (behind-count ∙ rw (ne-eqb n 0 z))
 
 pub ruleset map-cases = (map-refused, map-empty, map-pairs)
-
-is-id : (x : Found ℤ) (id : FieldId) (p : Place) → toId x ≡ Id.Got id p → x ≡ got (id .0) (p .0)
-is-id (got z e) id p f =
-    let i : idOf z ≡ id = cc in
-    let q : place e ≡ p = cc in
-    ap₂ got (ap (λ (y : FieldId). y .0) i) (ap (λ (y : Place). y .0) q)
-is-id (refused why) id p f = let o : _≡_ {A = ℕ} 0 1 = cc in absurd (omega arith)
-
-no-id : (x : Found ℤ) (why : ℕ) → toId x ≡ Id.Refused why → x ≡ refused why
-no-id (got z e) why f = let o : _≡_ {A = ℕ} 0 1 = cc in absurd (omega arith)
-no-id (refused u) why f = cc
-
--- read_field_begin
-module _ (s : List ℕ) (last : ℤ) (at : ℕ) where
-  pub field-end : length s ≤ at → F.Refused END ≡ fieldAt s last at
-  unfolding fieldAt field
-  field-end h = sym (ap toField (stop-at _ _ s at END (byte-out s at h)))
-
-  module _ (h : at < length s) (r : FieldType) (e : r ≡ fieldType (getD s at 0 % 16)) where
-    by-type : (x : FieldType) → r ≡ x → fieldAt s last at ≡ toField (readAt (ofType last (getD s at 0 / 16) x) s (at + 1))
-    unfolding fieldAt field
-    by-type x g = ap toField (step _ _ s at _ _ (byte-at s at h) ∙ ap (λ (y : FieldType). readAt (ofType last (getD s at 0 / 16) y) s (at + 1)) (sym e ∙ g))
-
-    pub field-stop : r ≡ FT.Stop → F.Stop (place (at + 1)) ≡ fieldAt s last at
-    field-stop g = sym (by-type FT.Stop g ∙ ap toField (done-at s _ _))
-
-    pub field-untyped : (why : ℕ) → r ≡ FT.Refused why → F.Refused why ≡ fieldAt s last at
-    field-untyped why g = sym (by-type (FT.Refused why) g ∙ ap toField (refuse-at s _ _))
-
-    -- the last id reaches the call through its bits, as l
-    module _ (q : IdRead) (l : ℤ) (f : q ≡ fieldIdAt s l (getD s at 0 / 16) (at + 1)) (i : l ≡ last) where
-      id-got : (id : FieldId) (p : Place) → q ≡ Id.Got id p → readAt (fieldId last (getD s at 0 / 16)) s (at + 1) ≡ got (id .0) (p .0)
-      unfolding fieldIdAt
-      id-got id p x = is-id (readAt (fieldId last (getD s at 0 / 16)) s (at + 1)) id p (sym (rw i at f) ∙ x)
-
-      id-no : (why : ℕ) → q ≡ Id.Refused why → readAt (fieldId last (getD s at 0 / 16)) s (at + 1) ≡ refused why
-      unfolding fieldIdAt
-      id-no why x = no-id (readAt (fieldId last (getD s at 0 / 16)) s (at + 1)) why (sym (rw i at f) ∙ x)
-
-      module _ (b : Bool) (g : r ≡ FT.Truth b) where
-        pub field-bool : (id : FieldId) (p : Place) → q ≡ Id.Got id p → F.Bool b id p ≡ fieldAt s last at
-        field-bool id p x = sym (by-type (FT.Truth b) g ∙ ap toField (step _ _ s _ _ _ (id-got id p x) ∙ done-at s _ _))
-
-        pub field-bool-no : (why : ℕ) → q ≡ Id.Refused why → F.Refused why ≡ fieldAt s last at
-        field-bool-no why x = sym (by-type (FT.Truth b) g ∙ ap toField (stop-at _ _ s _ _ (id-no why x)))
-
-      module _ (t : TType) (g : r ≡ FT.Kind t) where
-        pub field-value : (id : FieldId) (p : Place) → q ≡ Id.Got id p → F.Value t id p ≡ fieldAt s last at
-        field-value id p x = sym (by-type (FT.Kind t) g ∙ ap toField (step _ _ s _ _ _ (id-got id p x) ∙ done-at s _ _))
-
-        pub field-value-no : (why : ℕ) → q ≡ Id.Refused why → F.Refused why ≡ fieldAt s last at
-        field-value-no why x = sym (by-type (FT.Kind t) g ∙ ap toField (stop-at _ _ s _ _ (id-no why x)))
-
--- a byte's high 4 bits
-pub high-four : (s : List ℕ) (at : ℕ) → ((i : ℕ) → Fits w8 (getD s i 0)) → getD s at 0 / 16 < 16
-high-four s at h = omega (arith, h at .fits)
-
-pub ruleset field-cases = (high-four, field-end, field-stop, field-untyped, field-bool, field-bool-no, field-value, field-value-no, toZ-ofZ, sfits-of)
 
 -- a message: the sequence number and the name
 module _ (s : List ℕ) (lim : TConfiguration) (m : TMessageType) (at : ℕ) (r : Varint32) (e : r ≡ varint32At s at) where

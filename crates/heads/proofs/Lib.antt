@@ -1,5 +1,5 @@
 pub mod Lawful
 pub mod Steps
 pub mod Cases
-pub mod Ids
+pub mod Fields
 pub mod Readers

@@ -4,7 +4,10 @@ use mathlib.Core.Bool.{Bool}
 use mathlib.Core.List.{List, []}
 use lib.ListN.{length}
 use lib.IntN.{ℤ}
+use Rattle.types.specs.Codes.{fieldType}
 use Rattle.types.specs.declared.TType.{TType}
+use Rattle.types.specs.declared.FieldType.{FieldType}
+use Rattle.types.specs.declared.FieldType.the-variants as FT
 use Rattle.types.specs.declared.TMessageType.{TMessageType}
 use Rattle.types.specs.declared.TConfiguration.{TConfiguration}
 use Rattle.types.specs.declared.Place.{Place}
@@ -12,7 +15,7 @@ use Rattle.types.specs.declared.FieldId.{FieldId}
 use Rattle.types.specs.declared.SeqNo.{SeqNo}
 use Rattle.numbers.specs.Varint.{Found, got, refused, placed}
 use Rattle.heads.specs.Reader.{readAt, some}
-use Rattle.heads.specs.Heads.{int8, int16, int32, int64, double, truth, uuid, binary, text, counted, listed, items, mapped, pairs, fieldId, Field, stop, bool, value, field, Message, named, versioned, message}
+use Rattle.heads.specs.Heads.{int8, int16, int32, int64, double, truth, uuid, binary, text, counted, listed, items, mapped, pairs, Field, stop, bool, value, field, Message, named, versioned, message}
 use Rattle.heads.specs.declared.I8Read.{I8Read}
 use Rattle.heads.specs.declared.I8Read.the-variants as I8
 use Rattle.heads.specs.declared.I16Read.{I16Read}
@@ -33,8 +36,6 @@ use Rattle.heads.specs.declared.MapHead.{MapHead}
 use Rattle.heads.specs.declared.MapHead.the-variants as M
 use Rattle.heads.specs.declared.FieldHead.{FieldHead}
 use Rattle.heads.specs.declared.FieldHead.the-variants as F
-use Rattle.heads.specs.declared.IdRead.{IdRead}
-use Rattle.heads.specs.declared.IdRead.the-variants as Id
 use Rattle.heads.specs.declared.MessageHead.{MessageHead}
 use Rattle.heads.specs.declared.MessageHead.the-variants as H
 
@@ -136,13 +137,6 @@ unfoldable pub pairsAt : List ℕ → TConfiguration → ℕ → MapHead
 pairsAt s lim at = toMap (readAt (pairs lim) s at)
 
 -- fields
-abbrev pub toId : Found ℤ → IdRead
-toId (got z e) = Id.Got (idOf z) (place e)
-toId (refused why) = Id.Refused why
-
-unfoldable pub fieldIdAt : List ℕ → ℤ → ℕ → ℕ → IdRead
-fieldIdAt s last delta at = toId (readAt (fieldId last delta) s at)
-
 abbrev pub toField : Found Field → FieldHead
 toField (got stop e) = F.Stop (place e)
 toField (got (bool b id) e) = F.Bool b (idOf id) (place e)
@@ -151,6 +145,25 @@ toField (refused why) = F.Refused why
 
 unfoldable pub fieldAt : List ℕ → ℤ → ℕ → FieldHead
 fieldAt s last at = toField (readAt (field last) s at)
+
+-- behind the first byte: what its type makes of the id and of the place behind it
+abbrev pub headOf : FieldType → ℤ → ℕ → FieldHead
+headOf FT.Stop id at = F.Stop (place at)
+headOf (FT.Truth b) id at = F.Bool b (idOf id) (place at)
+headOf (FT.Kind t) id at = F.Value t (idOf id) (place at)
+headOf (FT.Refused why) id at = F.Refused why
+
+unfoldable pub headAt : ℕ → ℤ → ℕ → FieldHead
+headAt code id at = headOf (fieldType code) id at
+
+-- the same of an id that has to be found first
+abbrev pub headWith : ℕ → Found ℤ → FieldHead
+headWith code (got id e) = headAt code id e
+headWith code (refused why) = F.Refused why
+
+-- "Delta 0: an i16 id follows"
+unfoldable pub longAt : List ℕ → ℕ → ℕ → FieldHead
+longAt s code at = headWith code (readAt int16 s at)
 
 -- messages
 abbrev pub toMessage : Found Message → MessageHead

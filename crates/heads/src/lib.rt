@@ -3,13 +3,12 @@
 ghost use mathlib.Core.Path.{_≡_};
 ghost use Prim.Native.Nat.{_≤_, _<_};
 ghost use lib.ListN.{length};
-ghost use Rattle.heads.specs.Answers.{int8At, int16At, int32At, int64At, doubleAt, truthAt, someAt, uuidAt, binaryAt, textAt, countWhy, listedAt, itemsAt, mappedAt, pairsAt, fieldIdAt, fieldAt, kindAt, messageAt, namedAt};
+ghost use Rattle.heads.specs.Answers.{int8At, int16At, int32At, int64At, doubleAt, truthAt, someAt, uuidAt, binaryAt, textAt, countWhy, listedAt, itemsAt, mappedAt, pairsAt, headAt, longAt, fieldAt, kindAt, messageAt, namedAt};
 use numbers::Bits64;
 use numbers::Int16;
 use numbers::Varint32;
 use numbers::Varint64;
 use types::FieldId;
-use types::FieldType;
 use types::MessageTypeRead;
 use types::Place;
 use types::SeqNo;
@@ -72,11 +71,6 @@ pub enum FieldHead {
     Stop(Place),
     Bool(bool, FieldId, Place),
     Value(TType, FieldId, Place),
-    Refused(u8),
-}
-
-enum IdRead {
-    Got(FieldId, Place),
     Refused(u8),
 }
 
@@ -284,25 +278,33 @@ pub fn read_map_begin(s: &[u8], place: Place, limits: TConfiguration) -> MapHead
     }
 }
 
-// The id behind a first byte with this delta: written out behind a delta of 0, else so much over the last.
-fn field_id(s: &[u8], at: usize, last: FieldId, delta: u8) -> IdRead
-    requires { ⌜ delta < 16 ⌝ }
-    ensures { λ r. ⌜ r ≡ fieldIdAt (now (s .entry)) (last .0) delta at ⌝ }
+// A field's header, once its id is read: a bool's code, 1 or 2, is its value.
+fn headed(code: u8, id: FieldId, next: Place) -> FieldHead
+    requires { ⌜ 0 < code ⌝ }
+    ensures { λ r. ⌜ r ≡ headAt code (id .0) (next .0) ⌝ }
 {
-    if delta == 0 {
-        return match numbers::read_i16(s, at) {
-            Int16::Got(id, next) => IdRead::Got(FieldId(id), Place(next)),
-            Int16::Refused(why) => IdRead::Refused(why),
-        };
+    if code < 3 {
+        return FieldHead::Bool(code == 1, id, next);
     }
-    let sum = (last.0 as i32) + (delta as i32);
-    if 32767 < sum {
-        return IdRead::Refused(types::FIELD_ID);
+    match types::u8_to_type(code) {
+        TypeRead::Got(kind) => FieldHead::Value(kind, id, next),
+        TypeRead::Refused(why) => FieldHead::Refused(why),
     }
-    IdRead::Got(FieldId(sum as i16), Place(at))
 }
 
-// A bool's value goes along only with its whole header: one that is refused leaves nothing behind.
+// The long form: the id is written out behind the first byte.
+fn long_field(s: &[u8], at: usize, code: u8) -> FieldHead
+    requires { ⌜ 0 < code ⌝ }
+    ensures { λ r. ⌜ r ≡ longAt (now (s .entry)) code at ⌝ }
+{
+    match numbers::read_i16(s, at) {
+        Int16::Got(id, next) => headed(code, FieldId(id), Place(next)),
+        Int16::Refused(why) => FieldHead::Refused(why),
+    }
+}
+
+// The short form is read here and the long one apart, so that the common case can be inlined. A bool's value goes along only with its whole
+// header: one that is refused leaves nothing behind.
 pub fn read_field_begin(s: &[u8], place: Place, last: FieldId) -> FieldHead
     ensures { λ r. ⌜ r ≡ fieldAt (now (s .entry)) (last .0) (place .0) ⌝ }
 {
@@ -311,18 +313,22 @@ pub fn read_field_begin(s: &[u8], place: Place, last: FieldId) -> FieldHead
         return FieldHead::Refused(types::END);
     }
     let b = s[at];
-    match types::field_u8_to_type(b % 16) {
-        FieldType::Stop => FieldHead::Stop(Place(at + 1)),
-        FieldType::Refused(why) => FieldHead::Refused(why),
-        FieldType::Truth(truth) => match field_id(s, at + 1, last, b / 16) {
-            IdRead::Got(id, next) => FieldHead::Bool(truth, id, next),
-            IdRead::Refused(why) => FieldHead::Refused(why),
-        },
-        FieldType::Kind(kind) => match field_id(s, at + 1, last, b / 16) {
-            IdRead::Got(id, next) => FieldHead::Value(kind, id, next),
-            IdRead::Refused(why) => FieldHead::Refused(why),
-        },
+    let code = b % 16;
+    if code == 0 {
+        return FieldHead::Stop(Place(at + 1));
     }
+    if 13 < code {
+        return FieldHead::Refused(types::BAD_TYPE);
+    }
+    let delta = b / 16;
+    if delta == 0 {
+        return long_field(s, at + 1, code);
+    }
+    let sum = (last.0 as i32) + (delta as i32);
+    if 32767 < sum {
+        return FieldHead::Refused(types::FIELD_ID);
+    }
+    headed(code, FieldId(sum as i16), Place(at + 1))
 }
 
 // Behind the two first bytes: the sequence number and the name.

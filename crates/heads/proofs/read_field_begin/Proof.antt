@@ -1,5 +1,5 @@
 use borrow.Author.Needs.{needs}
-use Rattle.heads.proofs.Cases.{field-cases}
+use Rattle.heads.proofs.Fields.{field-cases}
 use Rattle.heads.proofs.read_field_begin.Statement.{statement}
 use Rattle.heads.proofs.read_field_begin.Tie as tie
 
@@ -9,23 +9,17 @@ read-field-begin-spec =
     (tie.spec
     (λ c. search field-cases)
     (λ c. search needs)
+    (λ c. search needs)
+    (λ c. search field-cases)
+    (λ c. search field-cases)
+    (λ c. search needs)
     (λ c κs. search needs)
-    (λ c. search needs)
-    (λ c. search needs)
-    (λ c. search needs)
-    (λ c. search needs)
-    (λ c. search needs)
-    (λ c κs. search field-cases)
-    (λ c. search needs)
-    (λ c. search needs)
-    (λ c. search needs)
-    (λ c. search needs)
-    (λ c κs. search field-cases)
-    (λ c. search needs)
-    (λ c. search needs)
     (λ c. search field-cases)
     (λ c. search field-cases)
     (λ c. search field-cases)
     (λ c. search field-cases)
     (λ c. search field-cases)
+    (λ c. search field-cases)
+    (λ c. search needs)
+    (λ c κs. search needs)
     (λ c. search field-cases))
