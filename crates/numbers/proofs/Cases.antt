@@ -42,15 +42,25 @@ pub ruleset i16-cases = (i16-refused, i16-got, toZ-ofZ, sfits-of)
 
 -- the test for room
 module _ (have at need : ℕ) where
-  pub lacks-all : have < at → true ≡ ltb have (at + need)
-  lacks-all h = sym (lt-ltb have (at + need) (omega arith))
+  pub room-none : have < at → true ≡ ltb have (at + need)
+  room-none h = sym (lt-ltb have (at + need) (omega arith))
 
-  pub lacks-behind : at ≤ have → ltb (have - at) need ≡ ltb have (at + need)
-  lacks-behind h =
+  pub room-rest : at ≤ have → ltb (have - at) need ≡ ltb have (at + need)
+  room-rest h =
       by-lt (have - at) need (λ k. rw (lt-ltb (have - at) need k, lt-ltb have (at + need) (omega arith)))
       (λ k. rw (le-ltb (have - at) need k, le-ltb have (at + need) (omega arith)))
 
-pub ruleset room-cases = (lacks-all, lacks-behind)
+  -- with what is needed taken off first, as `output` has it
+  pub lacks-all : have < need → true ≡ ltb have (at + need)
+  lacks-all h = sym (lt-ltb have (at + need) (omega arith))
+
+  pub lacks-behind : need ≤ have → have - need < at → true ≡ ltb have (at + need)
+  lacks-behind h k = sym (lt-ltb have (at + need) (omega arith))
+
+  pub lacks-none : need ≤ have → at ≤ have - need → false ≡ ltb have (at + need)
+  lacks-none h k = sym (le-ltb have (at + need) (omega arith))
+
+pub ruleset room-cases = (room-none, room-rest)
 
 -- what a writer of bs does after that test
 module _ (short : Bool) (buf : List ℕ) (at need : ℕ) (bs : List ℕ) (e : short ≡ ltb (length buf) (at + need)) (l : need ≡ length bs) where
