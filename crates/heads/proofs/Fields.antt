@@ -142,7 +142,7 @@ module _ (last : ℤ) (delta : ℕ) (hl : SFits w16 last) (hd : delta < 16) wher
   sum32 : SFits w32 (last +ℤ pos delta)
   sum32 = record { sfits = omega (arith, mag-add last delta, hl .sfits) }
 
-  id-is : toZ w32 (ofZ w32 (code-sum last delta)) ≡ last +ℤ pos delta
+  pub id-is : toZ w32 (ofZ w32 (code-sum last delta)) ≡ last +ℤ pos delta
   id-is = rw terms (toZ-ofZ sum32)
 
   pub id-fits : SFits w32 (code-sum last delta)

@@ -8,17 +8,13 @@ use lib.Dec.{leb}
 use Rattle.types.specs.Refusals.{BAD-STATE, OUT-OF-TURN}
 use Rattle.types.specs.Limits.{inRange}
 use Rattle.types.specs.declared.TConfiguration.{TConfiguration}
-use Rattle.types.proofs.Limits.{ranged}
+use Rattle.types.proofs.Limits.{both, ranged}
 use Rattle.input.specs.State.{State, fresh, sound, waits, gate}
 
 pub record Sound (len : ℕ) (st : State) : Type 0 where
   pub limits : inRange (st .limits) ≡ true
   pub here : st .place .0 ≤ len
   pub deep : st .depth ≤ st .limits .depth
-
-both : (a b : Bool) → (a && b) ≡ true → (a ≡ true) × (b ≡ true)
-both true b e = (refl, e)
-both false b e = let z : _≡_ {A = ℕ} 0 1 = cc in absurd (omega arith)
 
 pub is-sound : (len : ℕ) (st : State) → sound len st ≡ true → Sound len st
 unfolding sound

@@ -9,6 +9,7 @@ use borrow.Author.Tests.{eq-eqb, ne-eqb, lt-ltb, le-ltb, le-leb, lt-leb, leb-tru
 use lib.Dec.{eqb, leb}
 use lib.IntN.{ℤ, pos}
 use lib.ListN.{length}
+use Rattle.types.proofs.Limits.{both}
 use Rattle.types.specs.Refusals.{DEPTH, NO-ROOM, BAD-LIST}
 use Rattle.types.specs.declared.Place.{Place}
 use Rattle.types.specs.declared.TType.{TType}
@@ -74,10 +75,6 @@ module _ (s : List ℕ) (st : State) (d : st .depth < st .limits .depth) where
 pub ruleset on-cases = (no-answer, no-rows, yes-answer, yes-rows)
 
 -- pick
-both : (a b : Bool) → (a && b) ≡ true → (a ≡ true) × (b ≡ true)
-both true b e = (refl, e)
-both false b e = let z : _≡_ {A = ℕ} 0 1 = cc in absurd (omega arith)
-
 -- a list that passes: as many types as ids, and no more than 64
 pub record Passed (ids : List ℤ) (kinds : List ℕ) : Type 0 where
   pub paired : length kinds ≡ length ids

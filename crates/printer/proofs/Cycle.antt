@@ -29,7 +29,8 @@ use Rattle.heads.specs.declared.FieldHead.the-variants as F
 use Rattle.heads.proofs.Readers.{field-lawful, field-takes}
 use Rattle.heads.proofs.Steps.{found-at}
 use Rattle.skip.specs.Value.{startable}
-use Rattle.skip.proofs.Cycle.{isLeaf, pos-suc}
+use Rattle.skip.specs.Leaves.{isLeaf}
+use Rattle.skip.proofs.Past.{pos-suc}
 use Rattle.scalars.specs.declared.Scalar.the-variants as S
 use Rattle.text.specs.Pen.{Pen, inked}
 use Rattle.lines.specs.Lines as row

@@ -28,7 +28,9 @@ use Rattle.heads.proofs.Readers.{int8-lawful, int16-lawful, int32-lawful, int64
 use Rattle.skip.specs.Walk.{Entry, withSize, sizing, behind, fields}
 use Rattle.skip.specs.Value.{many, manyPairs, fieldsOf, startable, Boxes, roomy, shaped, valueOf}
 use Rattle.skip.proofs.Walks.{fields-step}
-use Rattle.skip.proofs.Cycle.{isLeaf, flat, pos-suc}
+use Rattle.skip.specs.Leaves.{isLeaf}
+use Rattle.skip.proofs.Past.{pos-suc}
+use Rattle.skip.proofs.Leaf.{flat}
 
 -- one reader behind another, on bytes that are read whole by the first and then by the second
 pub joined : {A B : Type 0} (p : Reader A) (k : A → Reader B) (a : A) (b : B) (h t rest : List ℕ) → p (h ++ (t ++ rest)) ≡ got a (length h) → k a (t ++ rest) ≡ got b (length t) → andThen p k ((h ++ t) ++ rest) ≡ got b (length (h ++ t))

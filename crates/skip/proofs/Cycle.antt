@@ -35,50 +35,13 @@ use Rattle.heads.proofs.Steps.{found-at, lost-at}
 use Rattle.skip.specs.Walk.{Entry, withSize, sizing, behind, fields}
 use Rattle.skip.specs.Value.{many, manyPairs, fieldsOf, startable, Boxes, shut, roomy, shaped, valueOf}
 use Rattle.skip.specs.Skip.{passed, past, skipOf}
+use Rattle.skip.specs.Leaves.{isLeaf, stopEnd, Onward}
 use Rattle.skip.specs.declared.Skipped.{Skipped}
 use Rattle.skip.specs.declared.Skipped.the-variants.{Done, Refused}
+use Rattle.skip.proofs.Leaf.{flat, stop-there}
 use Rattle.skip.proofs.Walks.{fields-step}
 use Rattle.skip.proofs.Lawfuls.{value-lawful}
-use Rattle.skip.proofs.Past.{done-refused, read-past, refused-past, past-got, past-no, past-step, past-stop, past-made, past-yes, past-not, past-refuse, past-done}
-
--- types that hold no other value are read alike with any room
-abbrev pub isLeaf : TType → Bool
-isLeaf T.Stop = true
-isLeaf T.Bool = true
-isLeaf T.I08 = true
-isLeaf T.I16 = true
-isLeaf T.I32 = true
-isLeaf T.I64 = true
-isLeaf T.Double = true
-isLeaf T.String = true
-isLeaf T.List = false
-isLeaf T.Set = false
-isLeaf T.Map = false
-isLeaf T.Struct = false
-isLeaf T.Uuid = true
-
-no-leaf : {X : Type 0} → false ≡ true → X
-no-leaf e = let z : _≡_ {A = ℕ} 0 1 = cc in absurd (omega arith)
-
-same-shape : (lim : TConfiguration) (b c : Boxes) (t : TType) → isLeaf t ≡ true → shaped lim b t ≡ shaped lim c t
-same-shape lim b c T.Stop e = refl
-same-shape lim b c T.Bool e = refl
-same-shape lim b c T.I08 e = refl
-same-shape lim b c T.I16 e = refl
-same-shape lim b c T.I32 e = refl
-same-shape lim b c T.I64 e = refl
-same-shape lim b c T.Double e = refl
-same-shape lim b c T.String e = refl
-same-shape lim b c T.List e = no-leaf e
-same-shape lim b c T.Set e = no-leaf e
-same-shape lim b c T.Map e = no-leaf e
-same-shape lim b c T.Struct e = no-leaf e
-same-shape lim b c T.Uuid e = refl
-
-pub flat : (lim : TConfiguration) (room : ℕ) (t : TType) → isLeaf t ≡ true → valueOf lim room t ≡ valueOf lim 0 t
-unfolding valueOf
-flat lim zero t e = refl
-flat lim (suc room) t e = same-shape lim (roomy lim (valueOf lim room)) shut t e
+use Rattle.skip.proofs.Past.{done-refused, read-past, refused-past, past-got, past-no, past-step, past-stop, past-made, past-yes, past-not, past-refuse, past-done, pos-suc}
 
 -- behind a list's header, whatever is made of the elements
 elements-same : (s : List ℕ) (lim : TConfiguration) (room : ℕ) (t : TType) (n e : ℕ) (ok : Bool) (g h : Trees → Tree) → past (provided ok BAD-TYPE (andThen (many (valueOf lim room t) n) (λ ts. done (g ts)))) s e ≡ past (provided ok BAD-TYPE (andThen (many (valueOf lim room t) n) (λ ts. done (h ts)))) s e
@@ -131,9 +94,6 @@ module _ (s : List ℕ) (lim : TConfiguration) (room : ℕ) (kind : TType) (at :
 pub ruleset value-cases = (value-none, value-leaf, value-list, value-set, value-map, value-struct)
 
 -- one value of so many passed over
-pub pos-suc : {k : ℕ} → 0 < k → k ≡ suc (k - 1)
-pos-suc h = omega arith
-
 module _ (s : List ℕ) (lim : TConfiguration) (room : ℕ) (kind : TType) (left p : ℕ) where
   pub many-end : left ≤ 0 → Done (place p) ≡ past (many (valueOf lim room kind) left) s p
   unfolding many
@@ -185,6 +145,10 @@ module _ (s : List ℕ) (lim : TConfiguration) (room at : ℕ) (h : ListHead) (e
 
     pub list-in : b ≡ true → past (many (valueOf lim room t) n) s (p .0) ≡ skipOf s lim (suc room) T.List at
     list-in k = sym (behind-head ∙ past-yes _ BAD-TYPE _ s (p .0) (sym f ∙ k) ∙ past-made (many (valueOf lim room t) n) (val.list t) s (p .0))
+
+    -- elements that hold no other, all at once
+    pub list-leaves : b ≡ true → (c : Bool) → c ≡ isLeaf t → c ≡ true → (r : Skipped) → r ≡ past (many (valueOf lim 0 t) n) s (p .0) → r ≡ skipOf s lim (suc room) T.List at
+    list-leaves k c x y r z = z ∙ ap (λ (v : Reader Tree). past (many v n) s (p .0)) (sym (flat lim room t (sym x ∙ y))) ∙ list-in k
 
 -- skip_pairs: a key, and its value
 module _ (s : List ℕ) (lim : TConfiguration) (room : ℕ) (key val-type : TType) (left p : ℕ) where
@@ -431,7 +395,7 @@ module _ (s : List ℕ) (lim : TConfiguration) (room : ℕ) (t : TType) (n : ℕ
     pub list-over : left ≤ 0 → Done p ≡ skipOf s lim (suc room) T.List at
     list-over l = many-end s lim room t left (p .0) l ∙ inv ∙ list-in s lim room at h e t n p₀ g b f k
 
-pub ruleset list-cases = (list-refused, list-stop, list-again, list-broken, list-over)
+pub ruleset list-cases = (list-refused, list-stop, list-leaves, list-again, list-broken, list-over)
 
 -- the loop of skip_pairs
 module _ (s : List ℕ) (lim : TConfiguration) (room : ℕ) (key val-type : TType) (n at left : ℕ) (p : Place) (inv : past (manyPairs (valueOf lim room key) (valueOf lim room val-type) left) s (p .0) ≡ past (manyPairs (valueOf lim room key) (valueOf lim room val-type) n) s at) where
@@ -453,28 +417,35 @@ pub ruleset pairs-cases = (pairs-over, pairs-broken, pairs-cut, pairs-again)
 
 pub ruleset map-cases = (map-refused, map-keyless, map-valueless, map-in)
 
--- the loop of skip_struct
-module _ (s : List ℕ) (lim : TConfiguration) (room at : ℕ) (last : FieldId) (p : Place) (inv : past (fields val.truth (valueOf lim room) (last .0)) s (p .0) ≡ past (fields val.truth (valueOf lim room) (pos 0)) s at) (h : FieldHead) (e : h ≡ fieldAt s (last .0) (p .0)) where
+-- the loop of skip_struct: a run of fields, and then one that is looked at more closely
+module _ (s : List ℕ) (lim : TConfiguration) (room at : ℕ) (last₀ : FieldId) (p₀ : Place) (inv : past (fields val.truth (valueOf lim room) (last₀ .0)) s (p₀ .0) ≡ past (fields val.truth (valueOf lim room) (pos 0)) s at) (last : FieldId) (p : Place) (o : Onward s (p₀ .0) (last₀ .0) (p .0) (last .0)) where
+  onto : past (fields val.truth (valueOf lim room) (last .0)) s (p .0) ≡ past (fields val.truth (valueOf lim room) (pos 0)) s at
+  onto = o .same lim room ∙ inv
+
   whole : past (fields val.truth (valueOf lim room) (last .0)) s (p .0) ≡ skipOf s lim (suc room) T.Struct at
-  whole = inv ∙ struct-in s lim room at
+  whole = onto ∙ struct-in s lim room at
 
-  pub fields-broken : (why : ℕ) → h ≡ F.Refused why → Refused why ≡ skipOf s lim (suc room) T.Struct at
-  fields-broken why g = struct-refused s lim room (last .0) (p .0) h e why g ∙ whole
+  pub fields-stopped : (e : Place) → e ≡ place (stopEnd s (p .0)) → p .0 < e .0 → Done e ≡ skipOf s lim (suc room) T.Struct at
+  fields-stopped e f l = sym (walk-stop val.truth (valueOf lim room) s (last .0) (p .0) (e .0) (stop-there s (last .0) (p .0) e f l)) ∙ whole
 
-  pub fields-over : (q : Place) → h ≡ F.Stop q → Done q ≡ skipOf s lim (suc room) T.Struct at
-  fields-over q g = struct-stop s lim room (last .0) (p .0) h e q g ∙ whole
+  module _ (h : FieldHead) (e : h ≡ fieldAt s (last .0) (p .0)) where
+    pub fields-broken : (why : ℕ) → h ≡ F.Refused why → Refused why ≡ skipOf s lim (suc room) T.Struct at
+    fields-broken why g = struct-refused s lim room (last .0) (p .0) h e why g ∙ whole
 
-  pub fields-bool : (b : Bool) (id : FieldId) (q : Place) → h ≡ F.Bool b id q → past (fields val.truth (valueOf lim room) (id .0)) s (q .0) ≡ past (fields val.truth (valueOf lim room) (pos 0)) s at
-  fields-bool b id q g = struct-bool s lim room (last .0) (p .0) h e b id q g ∙ inv
+    pub fields-over : (q : Place) → h ≡ F.Stop q → Done q ≡ skipOf s lim (suc room) T.Struct at
+    fields-over q g = struct-stop s lim room (last .0) (p .0) h e q g ∙ whole
 
-  module _ (t : TType) (id : FieldId) (m : Place) (g : h ≡ F.Value t id m) (r : Skipped) (f : r ≡ skipOf s lim room t (m .0)) where
-    pub fields-cut : (why : ℕ) → r ≡ Refused why → Refused why ≡ skipOf s lim (suc room) T.Struct at
-    fields-cut why y = struct-value-no s lim room (last .0) (p .0) h e t id m g r f why y ∙ whole
+    pub fields-bool : (b : Bool) (id : FieldId) (q : Place) → h ≡ F.Bool b id q → past (fields val.truth (valueOf lim room) (id .0)) s (q .0) ≡ past (fields val.truth (valueOf lim room) (pos 0)) s at
+    fields-bool b id q g = struct-bool s lim room (last .0) (p .0) h e b id q g ∙ onto
 
-    pub fields-value : (q : Place) → r ≡ Done q → past (fields val.truth (valueOf lim room) (id .0)) s (q .0) ≡ past (fields val.truth (valueOf lim room) (pos 0)) s at
-    fields-value q y = struct-value s lim room (last .0) (p .0) h e t id m g r f q y ∙ inv
+    module _ (t : TType) (id : FieldId) (m : Place) (g : h ≡ F.Value t id m) (r : Skipped) (f : r ≡ skipOf s lim room t (m .0)) where
+      pub fields-cut : (why : ℕ) → r ≡ Refused why → Refused why ≡ skipOf s lim (suc room) T.Struct at
+      fields-cut why y = struct-value-no s lim room (last .0) (p .0) h e t id m g r f why y ∙ whole
 
-pub ruleset struct-cases = (fields-broken, fields-over, fields-bool, fields-cut, fields-value)
+      pub fields-value : (q : Place) → r ≡ Done q → past (fields val.truth (valueOf lim room) (id .0)) s (q .0) ≡ past (fields val.truth (valueOf lim room) (pos 0)) s at
+      fields-value q y = struct-value s lim room (last .0) (p .0) h e t id m g r f q y ∙ onto
+
+pub ruleset struct-cases = (fields-stopped, fields-broken, fields-over, fields-bool, fields-cut, fields-value)
 
 -- each turn takes at least a byte
 module _ (s : List ℕ) (last : FieldId) (p : Place) (h : FieldHead) (e : h ≡ fieldAt s (last .0) (p .0)) where
@@ -487,3 +458,14 @@ module _ (s : List ℕ) (last : FieldId) (p : Place) (h : FieldHead) (e : h ≡ 
       let i = value-later s lim room (last .0) (p .0) h e t id m g r f q y in
       let j = value-inside s lim room (last .0) (p .0) h e t id m g r f q y in
       omega arith
+
+-- a run takes none back
+module _ (s : List ℕ) (last₀ : FieldId) (p₀ : Place) (last : FieldId) (p : Place) (o : Onward s (p₀ .0) (last₀ .0) (p .0) (last .0)) where
+  module _ (h : FieldHead) (e : h ≡ fieldAt s (last .0) (p .0)) where
+    pub run-bool-less : (b : Bool) (id : FieldId) (q : Place) → h ≡ F.Bool b id q → length s - q .0 < length s - p₀ .0
+    run-bool-less b id q g = omega (arith, o .later, bool-less s last p h e b id q g)
+
+    pub run-value-less : (lim : TConfiguration) (room : ℕ) (t : TType) (id : FieldId) (m : Place) (r : Skipped) (q : Place) → h ≡ F.Value t id m → r ≡ skipOf s lim room t (m .0) → r ≡ Done q → length s - q .0 < length s - p₀ .0
+    run-value-less lim room t id m r q g f y = omega (arith, o .later, value-less s last p h e lim room t id m r q g f y)
+
+pub ruleset run-less = (run-bool-less, run-value-less)

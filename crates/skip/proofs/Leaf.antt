@@ -1,39 +1,39 @@
 -- Skip of the values that hold no other, at each return. Assumes nothing.
 use mathlib.Core.Path.{_≡_, refl, sym, ap, _∙_}
-use mathlib.Core.Bool.{Bool, true, false}
-use mathlib.Core.List.{List}
-use Prim.Native.Nat.{ℕ, zero, suc}
+use mathlib.Core.Bool.{Bool, true, false, cond, _&&_}
+use mathlib.Core.List.{List, [], _∷_}
+use Prim.Native.Nat.{ℕ, zero, suc, _+_, _-_, _/_, _%_, _≤_, _<_}
 use native.Mathlib.Omega.{arith}
+use native.Mathlib.Numerals.{add-one}
+use borrow.Author.Tests.{lt-ltb, le-ltb, le-leb, lt-leb, eq-eqb, ne-eqb, ltb-true, eqb-true}
+use lib.Dec.{eqb, leb, ltb}
 use lib.IntN.{ℤ}
-use Rattle.types.specs.Refusals.{BAD-TYPE, DEPTH}
+use lib.ListN.{length, getD, take, drop, length-drop, drop-of-length-le}
+use lib.Seq.{drop-cons}
+use Rattle.types.specs.Refusals.{END, LONG-VARINT}
 use Rattle.types.specs.declared.Place.{Place}
 use Rattle.types.specs.declared.TType.{TType}
 use Rattle.types.specs.declared.TType.the-variants as T
 use Rattle.types.specs.declared.TConfiguration.{TConfiguration}
-use Rattle.types.specs.Value.{Tree}
-use Rattle.numbers.specs.Varint.{Found, got, refused}
-use Rattle.heads.specs.Reader.{Reader, readAt}
-use Rattle.heads.specs.Heads.{int8, int16, int32, int64, double, uuid, truth, binary}
-use Rattle.heads.specs.Answers.{place, toI8, int8At, toI16, int16At, toI32, int32At, toI64, int64At, toDouble, doubleAt, toBool, truthAt, toPart, uuidAt, binaryAt}
-use Rattle.heads.specs.declared.I8Read.{I8Read}
-use Rattle.heads.specs.declared.I8Read.the-variants as I8
-use Rattle.heads.specs.declared.I16Read.{I16Read}
-use Rattle.heads.specs.declared.I16Read.the-variants as I16
-use Rattle.heads.specs.declared.I32Read.{I32Read}
-use Rattle.heads.specs.declared.I32Read.the-variants as I32
-use Rattle.heads.specs.declared.I64Read.{I64Read}
-use Rattle.heads.specs.declared.I64Read.the-variants as I64
-use Rattle.heads.specs.declared.DoubleRead.{DoubleRead}
-use Rattle.heads.specs.declared.DoubleRead.the-variants as D
+use Rattle.types.specs.declared.FieldType.{FieldType}
+use Rattle.types.proofs.Limits.{both}
+use Rattle.numbers.specs.Varint.{Found, got, refused, more, groups, keep, varint, placed}
+use Rattle.numbers.specs.Answers.{signed16}
+use Rattle.heads.specs.Reader.{byte, some, readAt}
+use Rattle.heads.specs.Heads.{number32, number64, int8, int16, int32, int64, double, uuid, truth, binary, stop, ofType, field}
+use Rattle.heads.specs.Answers.{place, toBool, truthAt, toPart, binaryAt}
 use Rattle.heads.specs.declared.BoolRead.{BoolRead}
 use Rattle.heads.specs.declared.BoolRead.the-variants as B
 use Rattle.heads.specs.declared.PartRead.{PartRead}
 use Rattle.heads.specs.declared.PartRead.the-variants as P
+use Rattle.heads.proofs.Steps.{step, done-at, byte-at}
+use Rattle.heads.proofs.Fields.{code-stop}
 use Rattle.skip.specs.Value.{Boxes, shut, roomy, shaped, valueOf}
-use Rattle.skip.specs.Skip.{passed, past, skipOf}
+use Rattle.skip.specs.Skip.{passed, past}
+use Rattle.skip.specs.Leaves.{isLeaf, stopEnd}
 use Rattle.skip.specs.declared.Skipped.{Skipped}
 use Rattle.skip.specs.declared.Skipped.the-variants.{Done, Refused}
-use Rattle.skip.proofs.Past.{past-made, past-refuse}
+use Rattle.skip.proofs.Past.{past-made, pos-suc}
 
 abbrev of-bool : BoolRead → Skipped
 of-bool (B.Got a e) = Done e
@@ -42,46 +42,6 @@ of-bool (B.Refused why) = Refused why
 as-bool : (x : Found Bool) → of-bool (toBool x) ≡ passed x
 as-bool (got a e) = refl
 as-bool (refused why) = refl
-
-abbrev of-i8 : I8Read → Skipped
-of-i8 (I8.Got a e) = Done e
-of-i8 (I8.Refused why) = Refused why
-
-as-i8 : (x : Found ℤ) → of-i8 (toI8 x) ≡ passed x
-as-i8 (got a e) = refl
-as-i8 (refused why) = refl
-
-abbrev of-i16 : I16Read → Skipped
-of-i16 (I16.Got a e) = Done e
-of-i16 (I16.Refused why) = Refused why
-
-as-i16 : (x : Found ℤ) → of-i16 (toI16 x) ≡ passed x
-as-i16 (got a e) = refl
-as-i16 (refused why) = refl
-
-abbrev of-i32 : I32Read → Skipped
-of-i32 (I32.Got a e) = Done e
-of-i32 (I32.Refused why) = Refused why
-
-as-i32 : (x : Found ℤ) → of-i32 (toI32 x) ≡ passed x
-as-i32 (got a e) = refl
-as-i32 (refused why) = refl
-
-abbrev of-i64 : I64Read → Skipped
-of-i64 (I64.Got a e) = Done e
-of-i64 (I64.Refused why) = Refused why
-
-as-i64 : (x : Found ℤ) → of-i64 (toI64 x) ≡ passed x
-as-i64 (got a e) = refl
-as-i64 (refused why) = refl
-
-abbrev of-double : DoubleRead → Skipped
-of-double (D.Got a e) = Done e
-of-double (D.Refused why) = Refused why
-
-as-double : (x : Found ℕ) → of-double (toDouble x) ≡ passed x
-as-double (got a e) = refl
-as-double (refused why) = refl
 
 -- a part's answer, as skip has it
 abbrev of-part : PartRead → Skipped
@@ -104,72 +64,6 @@ module _ (s : List ℕ) (at : ℕ) (r : BoolRead) (f : r ≡ truthAt s at) where
   pub bool-refused : (why : ℕ) → r ≡ B.Refused why → Refused why ≡ past truth s at
   bool-refused why g = over-bool (B.Refused why) g
 
-module _ (s : List ℕ) (at : ℕ) (r : I8Read) (f : r ≡ int8At s at) where
-  over-i8 : (q : I8Read) → r ≡ q → of-i8 q ≡ past int8 s at
-  unfolding int8At past
-  over-i8 q g = ap of-i8 (sym g ∙ f) ∙ as-i8 (readAt int8 s at)
-
-  pub i8-done : (a : ℤ) (e : Place) → r ≡ I8.Got a e → Done e ≡ past int8 s at
-  i8-done a e g = over-i8 (I8.Got a e) g
-
-  pub i8-refused : (why : ℕ) → r ≡ I8.Refused why → Refused why ≡ past int8 s at
-  i8-refused why g = over-i8 (I8.Refused why) g
-
-module _ (s : List ℕ) (at : ℕ) (r : I16Read) (f : r ≡ int16At s at) where
-  over-i16 : (q : I16Read) → r ≡ q → of-i16 q ≡ past int16 s at
-  unfolding int16At past
-  over-i16 q g = ap of-i16 (sym g ∙ f) ∙ as-i16 (readAt int16 s at)
-
-  pub i16-done : (a : ℤ) (e : Place) → r ≡ I16.Got a e → Done e ≡ past int16 s at
-  i16-done a e g = over-i16 (I16.Got a e) g
-
-  pub i16-refused : (why : ℕ) → r ≡ I16.Refused why → Refused why ≡ past int16 s at
-  i16-refused why g = over-i16 (I16.Refused why) g
-
-module _ (s : List ℕ) (at : ℕ) (r : I32Read) (f : r ≡ int32At s at) where
-  over-i32 : (q : I32Read) → r ≡ q → of-i32 q ≡ past int32 s at
-  unfolding int32At past
-  over-i32 q g = ap of-i32 (sym g ∙ f) ∙ as-i32 (readAt int32 s at)
-
-  pub i32-done : (a : ℤ) (e : Place) → r ≡ I32.Got a e → Done e ≡ past int32 s at
-  i32-done a e g = over-i32 (I32.Got a e) g
-
-  pub i32-refused : (why : ℕ) → r ≡ I32.Refused why → Refused why ≡ past int32 s at
-  i32-refused why g = over-i32 (I32.Refused why) g
-
-module _ (s : List ℕ) (at : ℕ) (r : I64Read) (f : r ≡ int64At s at) where
-  over-i64 : (q : I64Read) → r ≡ q → of-i64 q ≡ past int64 s at
-  unfolding int64At past
-  over-i64 q g = ap of-i64 (sym g ∙ f) ∙ as-i64 (readAt int64 s at)
-
-  pub i64-done : (a : ℤ) (e : Place) → r ≡ I64.Got a e → Done e ≡ past int64 s at
-  i64-done a e g = over-i64 (I64.Got a e) g
-
-  pub i64-refused : (why : ℕ) → r ≡ I64.Refused why → Refused why ≡ past int64 s at
-  i64-refused why g = over-i64 (I64.Refused why) g
-
-module _ (s : List ℕ) (at : ℕ) (r : DoubleRead) (f : r ≡ doubleAt s at) where
-  over-double : (q : DoubleRead) → r ≡ q → of-double q ≡ past double s at
-  unfolding doubleAt past
-  over-double q g = ap of-double (sym g ∙ f) ∙ as-double (readAt double s at)
-
-  pub double-done : (a : ℕ) (e : Place) → r ≡ D.Got a e → Done e ≡ past double s at
-  double-done a e g = over-double (D.Got a e) g
-
-  pub double-refused : (why : ℕ) → r ≡ D.Refused why → Refused why ≡ past double s at
-  double-refused why g = over-double (D.Refused why) g
-
-module _ (s : List ℕ) (at : ℕ) (r : PartRead) (f : r ≡ uuidAt s at) where
-  over-uuid : (q : PartRead) → r ≡ q → of-part q ≡ past uuid s at
-  unfolding uuidAt past
-  over-uuid q g = ap of-part (sym g ∙ f) ∙ as-part (readAt uuid s at)
-
-  pub uuid-done : (a e : Place) → r ≡ P.Got a e → Done e ≡ past uuid s at
-  uuid-done a e g = over-uuid (P.Got a e) g
-
-  pub uuid-refused : (why : ℕ) → r ≡ P.Refused why → Refused why ≡ past uuid s at
-  uuid-refused why g = over-uuid (P.Refused why) g
-
 module _ (s : List ℕ) (lim : TConfiguration) (at : ℕ) (r : PartRead) (f : r ≡ binaryAt s lim at) where
   over-bytes : (q : PartRead) → r ≡ q → of-part q ≡ past (binary lim) s at
   unfolding binaryAt past
@@ -181,62 +75,177 @@ module _ (s : List ℕ) (lim : TConfiguration) (at : ℕ) (r : PartRead) (f : r 
   pub bytes-refused : (why : ℕ) → r ≡ P.Refused why → Refused why ≡ past (binary lim) s at
   bytes-refused why g = over-bytes (P.Refused why) g
 
-pub ruleset leaf-ends = (bool-done, bool-refused, i8-done, i8-refused, i16-done, i16-refused, i32-done, i32-refused, i64-done, i64-refused, double-done, double-refused, uuid-done, uuid-refused, bytes-done, bytes-refused)
+pub ruleset leaf-ends = (bool-done, bool-refused, bytes-done, bytes-refused)
 
--- skip_leaf
-module _ (s : List ℕ) (lim : TConfiguration) (kind : TType) (at : ℕ) where
-  pub leaf-bool : (r : Skipped) → kind ≡ T.Bool → r ≡ past truth s at → r ≡ skipOf s lim 0 kind at
-  unfolding skipOf valueOf
-  leaf-bool r k e = rw k (e ∙ sym (past-made truth _ s at))
+-- skip_some
+bytes-left : (s : List ℕ) (at n : ℕ) → past (some n) s at ≡ cond (leb n (length s - at)) (Done (place (at + n))) (Refused END)
+unfolding past readAt some
+bytes-left s at n = rw (length-drop at s) (go (leb n (length s - at)))
+  where
+    go : (b : Bool) → passed (placed at (cond b (got (take n (drop at s)) n) (refused END))) ≡ cond b (Done (place (at + n))) (Refused END)
+    go true = refl
+    go false = refl
 
-  pub leaf-i8 : (r : Skipped) → kind ≡ T.I08 → r ≡ past int8 s at → r ≡ skipOf s lim 0 kind at
-  unfolding skipOf valueOf
-  leaf-i8 r k e = rw k (e ∙ sym (past-made int8 _ s at))
+module _ (s : List ℕ) (at n : ℕ) where
+  pub some-there : n ≤ length s - at → Done (place (at + n)) ≡ past (some n) s at
+  some-there h = sym (bytes-left s at n ∙ ap (λ (b : Bool). cond b (Done (place (at + n))) (Refused END)) (le-leb n (length s - at) h))
 
-  pub leaf-i16 : (r : Skipped) → kind ≡ T.I16 → r ≡ past int16 s at → r ≡ skipOf s lim 0 kind at
-  unfolding skipOf valueOf
-  leaf-i16 r k e = rw k (e ∙ sym (past-made int16 _ s at))
+  pub some-short : length s - at < n → Refused END ≡ past (some n) s at
+  some-short h = sym (bytes-left s at n ∙ ap (λ (b : Bool). cond b (Done (place (at + n))) (Refused END)) (lt-leb n (length s - at) h))
 
-  pub leaf-i32 : (r : Skipped) → kind ≡ T.I32 → r ≡ past int32 s at → r ≡ skipOf s lim 0 kind at
-  unfolding skipOf valueOf
-  leaf-i32 r k e = rw k (e ∙ sym (past-made int32 _ s at))
+  pub some-behind : length s < at → (n ≡ 0 → ⊥) → Refused END ≡ past (some n) s at
+  some-behind h z = some-short (omega arith)
 
-  pub leaf-i64 : (r : Skipped) → kind ≡ T.I64 → r ≡ past int64 s at → r ≡ skipOf s lim 0 kind at
-  unfolding skipOf valueOf
-  leaf-i64 r k e = rw k (e ∙ sym (past-made int64 _ s at))
+  pub some-none : length s < at → n ≡ 0 → Done (place at) ≡ past (some n) s at
+  some-none h z = ap (λ (m : ℕ). Done (place m)) (omega (arith, z)) ∙ some-there (omega (arith, z))
 
-  pub leaf-double : (r : Skipped) → kind ≡ T.Double → r ≡ past double s at → r ≡ skipOf s lim 0 kind at
-  unfolding skipOf valueOf
-  leaf-double r k e = rw k (e ∙ sym (past-made double _ s at))
+pub ruleset some-cases = (some-there, some-short, some-behind, some-none)
 
-  pub leaf-uuid : (r : Skipped) → kind ≡ T.Uuid → r ≡ past uuid s at → r ≡ skipOf s lim 0 kind at
-  unfolding skipOf valueOf
-  leaf-uuid r k e = rw k (e ∙ sym (past-made uuid _ s at))
+-- skip_varint
+more-past : (at b : ℕ) (x : Found ℕ) → passed (placed at (more b x)) ≡ passed (placed (suc at) x)
+more-past at b (got v n) = ap (λ (m : ℕ). Done (place m)) (omega arith)
+more-past at b (refused why) = refl
 
-  pub leaf-bytes : (r : Skipped) → kind ≡ T.String → r ≡ past (binary lim) s at → r ≡ skipOf s lim 0 kind at
-  unfolding skipOf valueOf
-  leaf-bytes r k e = rw k (e ∙ sym (past-made (binary lim) _ s at))
+module _ (s : List ℕ) (left p : ℕ) where
+  pub varint-long : left ≤ 0 → Refused LONG-VARINT ≡ past (groups left) s p
+  unfolding past readAt
+  varint-long z = let e : left ≡ 0 = omega arith in rw e
 
-  pub leaf-stop : kind ≡ T.Stop → Refused BAD-TYPE ≡ skipOf s lim 0 kind at
-  unfolding skipOf valueOf
-  leaf-stop k = rw k (sym (past-refuse Tree BAD-TYPE s at))
+  module _ (h : 0 < left) where
+    pub varint-end : length s ≤ p → Refused END ≡ past (groups left) s p
+    unfolding past readAt
+    varint-end e = rw (pos-suc h, drop-of-length-le s e)
 
-  -- no room for a container
-  module _ (e : shaped lim shut kind ≡ shut .list) where
-    pub leaf-deep : Refused DEPTH ≡ skipOf s lim 0 kind at
-    unfolding skipOf valueOf
-    leaf-deep = sym (ap (λ (p : Reader Tree). past p s at) e ∙ past-refuse Tree DEPTH s at)
+    module _ (i : p < length s) where
+      pub varint-last : getD s p 0 < 128 → Done (place (p + 1)) ≡ past (groups left) s p
+      unfolding past readAt
+      varint-last b = rw (pos-suc h, drop-cons s p 0 i, lt-ltb (getD s p 0) 128 b)
 
-pub deep-list : (lim : TConfiguration) (kind : TType) → kind ≡ T.List → shaped lim shut kind ≡ shut .list
-deep-list lim kind k = rw k
+      pub varint-more : 128 ≤ getD s p 0 → past (groups (left - 1)) s (p + 1) ≡ past (groups left) s p
+      unfolding past readAt
+      varint-more b =
+          ap (λ (m : ℕ). passed (placed m (groups (left - 1) (drop m s)))) (add-one p)
+          ∙ sym (ap (λ (k : ℕ). passed (placed p (groups k (drop p s)))) (pos-suc h)
+          ∙ ap (λ (bs : List ℕ). passed (placed p (groups (suc (left - 1)) bs))) (drop-cons s p 0 i)
+          ∙ ap (λ (c : Bool). passed (placed p (cond c (got (getD s p 0) 1) (more (getD s p 0 % 128) (groups (left - 1) (drop (suc p) s)))))) (le-ltb (getD s p 0) 128 b)
+          ∙ more-past p (getD s p 0 % 128) (groups (left - 1) (drop (suc p) s)))
 
-pub deep-set : (lim : TConfiguration) (kind : TType) → kind ≡ T.Set → shaped lim shut kind ≡ shut .list
-deep-set lim kind k = rw k
+-- the loop: what is left to read ends where the whole does
+module _ (s : List ℕ) (most at left p : ℕ) (inv : past (groups left) s p ≡ past (groups most) s at) where
+  pub varint-over : left ≤ 0 → Refused LONG-VARINT ≡ past (groups most) s at
+  varint-over z = varint-long s left p z ∙ inv
 
-pub deep-map : (lim : TConfiguration) (kind : TType) → kind ≡ T.Map → shaped lim shut kind ≡ shut .list
-deep-map lim kind k = rw k
+  module _ (h : 0 < left) where
+    pub varint-cut : length s ≤ p → Refused END ≡ past (groups most) s at
+    varint-cut e = varint-end s left p h e ∙ inv
 
-pub deep-struct : (lim : TConfiguration) (kind : TType) → kind ≡ T.Struct → shaped lim shut kind ≡ shut .list
-deep-struct lim kind k = rw k
+    module _ (i : p < length s) where
+      pub varint-done : getD s p 0 < 128 → Done (place (p + 1)) ≡ past (groups most) s at
+      varint-done b = varint-last s left p h i b ∙ inv
 
-pub ruleset leaf-cases = (leaf-bool, leaf-i8, leaf-i16, leaf-i32, leaf-i64, leaf-double, leaf-uuid, leaf-bytes, leaf-stop, leaf-deep, deep-list, deep-set, deep-map, deep-struct)
+      pub varint-on : 128 ≤ getD s p 0 → past (groups (left - 1)) s (p + 1) ≡ past (groups most) s at
+      varint-on b = varint-more s left p h i b ∙ inv
+
+pub ruleset varint-cases = (varint-over, varint-cut, varint-done, varint-on)
+
+-- where a scalar ends: its value has no say
+kept : (at w : ℕ) (x : Found ℕ) → passed (placed at (keep w x)) ≡ passed (placed at x)
+kept at w (got v n) = refl
+kept at w (refused why) = refl
+
+kept16 : (at w : ℕ) (x : Found ℕ) → passed (placed at (signed16 (keep w x))) ≡ passed (placed at x)
+kept16 at w (got v n) = refl
+kept16 at w (refused why) = refl
+
+one-byte : (at : ℕ) (bs : List ℕ) → passed (placed at (byte bs)) ≡ passed (placed at (some 1 bs))
+unfolding byte some
+one-byte at [] = refl
+one-byte at (b ∷ bs) = rw (le-leb 1 (suc (length bs)) (omega arith))
+
+module _ (s : List ℕ) (at : ℕ) where
+  varint-ends : (w k : ℕ) → past (varint w k) s at ≡ past (groups k) s at
+  unfolding past readAt
+  varint-ends w k = kept at w (groups k (drop at s))
+
+  pub i8-ends : past int8 s at ≡ past (some 1) s at
+  unfolding int8 past readAt
+  i8-ends = past-made byte _ s at ∙ one-byte at (drop at s)
+
+  pub i16-ends : past int16 s at ≡ past (groups 5) s at
+  unfolding int16 past readAt
+  i16-ends = kept16 at 32 (groups 5 (drop at s))
+
+  pub i32-ends : past int32 s at ≡ past (groups 5) s at
+  unfolding int32 number32
+  i32-ends = past-made number32 _ s at ∙ varint-ends 32 5
+
+  pub i64-ends : past int64 s at ≡ past (groups 10) s at
+  unfolding int64 number64
+  i64-ends = past-made number64 _ s at ∙ varint-ends 64 10
+
+  pub double-ends : past double s at ≡ past (some 8) s at
+  unfolding double
+  double-ends = past-made (some 8) _ s at
+
+  pub uuid-ends : past uuid s at ≡ past (some 16) s at
+  unfolding uuid
+  uuid-ends = refl
+
+-- is_leaf
+pub leaf-so : (kind t : TType) (b : Bool) → kind ≡ t → b ≡ isLeaf t → b ≡ isLeaf kind
+leaf-so kind t b k e = rw k e
+
+-- types that hold no other value are read alike with any room
+no-leaf : {X : Type 0} → false ≡ true → X
+no-leaf e = let z : _≡_ {A = ℕ} 0 1 = cc in absurd (omega arith)
+
+same-shape : (lim : TConfiguration) (b c : Boxes) (t : TType) → isLeaf t ≡ true → shaped lim b t ≡ shaped lim c t
+same-shape lim b c T.Stop e = refl
+same-shape lim b c T.Bool e = refl
+same-shape lim b c T.I08 e = refl
+same-shape lim b c T.I16 e = refl
+same-shape lim b c T.I32 e = refl
+same-shape lim b c T.I64 e = refl
+same-shape lim b c T.Double e = refl
+same-shape lim b c T.String e = refl
+same-shape lim b c T.List e = no-leaf e
+same-shape lim b c T.Set e = no-leaf e
+same-shape lim b c T.Map e = no-leaf e
+same-shape lim b c T.Struct e = no-leaf e
+same-shape lim b c T.Uuid e = refl
+
+pub flat : (lim : TConfiguration) (room : ℕ) (t : TType) → isLeaf t ≡ true → valueOf lim room t ≡ valueOf lim 0 t
+unfolding valueOf
+flat lim zero t e = refl
+flat lim (suc room) t e = same-shape lim (roomy lim (valueOf lim room)) shut t e
+
+-- past_stop
+module _ (s : List ℕ) (at : ℕ) where
+  pub stop-out : length s ≤ at → place at ≡ place (stopEnd s at)
+  stop-out h = rw (le-ltb at (length s) h)
+
+  module _ (h : at < length s) where
+    pub stop-here : getD s at 0 % 16 ≡ 0 → place (at + 1) ≡ place (stopEnd s at)
+    stop-here z = rw (lt-ltb at (length s) h, eq-eqb (getD s at 0 % 16) 0 z)
+
+    pub stop-not : (getD s at 0 % 16 ≡ 0 → ⊥) → place at ≡ place (stopEnd s at)
+    stop-not z = rw (lt-ltb at (length s) h, ne-eqb (getD s at 0 % 16) 0 z)
+
+pub ruleset stop-cases = (stop-out, stop-here, stop-not)
+
+-- a struct ends where such a byte stands
+pub stop-there : (s : List ℕ) (last : ℤ) (p : ℕ) (e : Place) → e ≡ place (stopEnd s p) → p < e .0 → readAt (field last) s p ≡ got stop (e .0)
+unfolding field
+stop-there s last p e f l = go (ltb p (length s) && eqb (getD s p 0 % 16) 0) refl
+  where
+    go : (b : Bool) → (ltb p (length s) && eqb (getD s p 0 % 16) 0) ≡ b → readAt (field last) s p ≡ got stop (e .0)
+    go true g =
+        let h = both (ltb p (length s)) (eqb (getD s p 0 % 16) 0) g in
+        let k : e .0 ≡ p + 1 = ap (λ (x : Place). x .0) f ∙ ap (λ (b : Bool). cond b (p + 1) p) g in
+        step _ _ s p _ _ (byte-at s p (ltb-true p (length s) (h .0)))
+        ∙ ap (λ (x : FieldType). readAt (ofType last (getD s p 0 / 16) x) s (p + 1)) (code-stop (getD s p 0 % 16) (eqb-true (getD s p 0 % 16) 0 (h .1)))
+        ∙ done-at s _ _
+        ∙ ap (got stop) (sym k)
+    go false g =
+        let k : e .0 ≡ p = ap (λ (x : Place). x .0) f ∙ ap (λ (b : Bool). cond b (p + 1) p) g in
+        absurd (omega (arith, k))

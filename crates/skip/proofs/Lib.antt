@@ -1,8 +1,10 @@
 pub mod Walks
 pub mod Past
 pub mod Leaf
+pub mod Runs
 pub mod Lawfuls
 pub mod Cycle
+pub mod Short
 pub mod Complete
 pub mod Sound
 pub mod Theorems

@@ -2,7 +2,7 @@
 use mathlib.Core.Path.{_≡_, refl, sym, ap, _∙_}
 use mathlib.Core.Bool.{Bool, true, false}
 use mathlib.Core.List.{List}
-use Prim.Native.Nat.{ℕ}
+use Prim.Native.Nat.{ℕ, suc, _-_, _<_}
 use native.Mathlib.Omega.{arith}
 use Rattle.types.specs.declared.Place.{Place}
 use Rattle.numbers.specs.Varint.{Found, got, refused, placed}
@@ -78,3 +78,6 @@ past-refuse A why s at = ap passed (refuse-at s at why)
 pub past-done : {A : Type 0} (a : A) (s : List ℕ) (at : ℕ) → past (done a) s at ≡ Done (place at)
 unfolding past
 past-done a s at = ap passed (done-at s at a)
+
+pub pos-suc : {k : ℕ} → 0 < k → k ≡ suc (k - 1)
+pos-suc h = omega arith

@@ -1,3 +1,4 @@
 pub mod Walk
 pub mod Value
 pub mod Skip
+pub mod Leaves

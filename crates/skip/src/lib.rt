@@ -13,20 +13,12 @@ ghost use Rattle.input.specs.State.{sound, waits, withPending};
 ghost use Rattle.input.specs.Outcome.{answers, declines};
 ghost use Rattle.input.specs.Answers.{asDone};
 ghost use Rattle.input.specs.declared.Awaited.the-variants as W;
-ghost use Rattle.heads.specs.Heads.{int8, int16, int32, int64, double, uuid, truth, binary};
 ghost use Rattle.skip.specs.Skip.{past, skipOf, over, roomOf, skipCall, skippedTo};
 ghost use Rattle.skip.specs.Value.{startable, manyPairs, valueOf};
 ghost use Rattle.types.specs.declared.TType.the-variants as T;
-use heads::BoolRead;
-use heads::DoubleRead;
 use heads::FieldHead;
-use heads::I8Read;
-use heads::I16Read;
-use heads::I32Read;
-use heads::I64Read;
 use heads::ListHead;
 use heads::MapHead;
-use heads::PartRead;
 use input::Awaited;
 use input::DoneAnswer;
 use input::Pending;
@@ -37,104 +29,12 @@ use types::Place;
 use types::TConfiguration;
 use types::TType;
 
+mod leaves;
+
 // The place behind the value, or the number of a refusal.
 pub enum Skipped {
     Done(Place),
     Refused(u8),
-}
-
-fn skip_bool(s: &[u8], at: Place) -> Skipped
-    ensures { λ r. ⌜ r ≡ past truth (now (s .entry)) (at .0) ⌝ }
-{
-    match heads::read_bool(s, at) {
-        BoolRead::Got(_, next) => Skipped::Done(next),
-        BoolRead::Refused(why) => Skipped::Refused(why),
-    }
-}
-
-fn skip_i8(s: &[u8], at: Place) -> Skipped
-    ensures { λ r. ⌜ r ≡ past int8 (now (s .entry)) (at .0) ⌝ }
-{
-    match heads::read_i8(s, at) {
-        I8Read::Got(_, next) => Skipped::Done(next),
-        I8Read::Refused(why) => Skipped::Refused(why),
-    }
-}
-
-fn skip_i16(s: &[u8], at: Place) -> Skipped
-    ensures { λ r. ⌜ r ≡ past int16 (now (s .entry)) (at .0) ⌝ }
-{
-    match heads::read_i16(s, at) {
-        I16Read::Got(_, next) => Skipped::Done(next),
-        I16Read::Refused(why) => Skipped::Refused(why),
-    }
-}
-
-fn skip_i32(s: &[u8], at: Place) -> Skipped
-    ensures { λ r. ⌜ r ≡ past int32 (now (s .entry)) (at .0) ⌝ }
-{
-    match heads::read_i32(s, at) {
-        I32Read::Got(_, next) => Skipped::Done(next),
-        I32Read::Refused(why) => Skipped::Refused(why),
-    }
-}
-
-fn skip_i64(s: &[u8], at: Place) -> Skipped
-    ensures { λ r. ⌜ r ≡ past int64 (now (s .entry)) (at .0) ⌝ }
-{
-    match heads::read_i64(s, at) {
-        I64Read::Got(_, next) => Skipped::Done(next),
-        I64Read::Refused(why) => Skipped::Refused(why),
-    }
-}
-
-fn skip_double(s: &[u8], at: Place) -> Skipped
-    ensures { λ r. ⌜ r ≡ past double (now (s .entry)) (at .0) ⌝ }
-{
-    match heads::read_double(s, at) {
-        DoubleRead::Got(_, next) => Skipped::Done(next),
-        DoubleRead::Refused(why) => Skipped::Refused(why),
-    }
-}
-
-fn skip_uuid(s: &[u8], at: Place) -> Skipped
-    ensures { λ r. ⌜ r ≡ past uuid (now (s .entry)) (at .0) ⌝ }
-{
-    match heads::read_uuid(s, at) {
-        PartRead::Got(_, next) => Skipped::Done(next),
-        PartRead::Refused(why) => Skipped::Refused(why),
-    }
-}
-
-// A string's bytes are passed over unseen: skip checks no UTF-8.
-fn skip_bytes(s: &[u8], at: Place, limits: TConfiguration) -> Skipped
-    ensures { λ r. ⌜ r ≡ past (binary limits) (now (s .entry)) (at .0) ⌝ }
-{
-    match heads::read_bytes(s, at, limits) {
-        PartRead::Got(_, next) => Skipped::Done(next),
-        PartRead::Refused(why) => Skipped::Refused(why),
-    }
-}
-
-// A value where no container may be entered.
-fn skip_leaf(s: &[u8], at: Place, kind: TType, limits: TConfiguration) -> Skipped
-    ensures { λ r. ⌜ r ≡ skipOf (now (s .entry)) limits 0 kind (at .0) ⌝ }
-{
-    match kind {
-        TType::Stop => Skipped::Refused(types::BAD_TYPE),
-        TType::Bool => skip_bool(s, at),
-        TType::I08 => skip_i8(s, at),
-        TType::I16 => skip_i16(s, at),
-        TType::I32 => skip_i32(s, at),
-        TType::I64 => skip_i64(s, at),
-        TType::Double => skip_double(s, at),
-        TType::String => skip_bytes(s, at, limits),
-        TType::List => Skipped::Refused(types::DEPTH),
-        TType::Set => Skipped::Refused(types::DEPTH),
-        TType::Map => Skipped::Refused(types::DEPTH),
-        TType::Struct => Skipped::Refused(types::DEPTH),
-        TType::Uuid => skip_uuid(s, at),
-    }
 }
 
 // A value, with `room` levels left.
@@ -142,22 +42,22 @@ pub fn skip_value(s: &[u8], at: Place, kind: TType, room: usize, limits: TConfig
     ensures { λ r. ⌜ r ≡ skipOf (now (s .entry)) limits room kind (at .0) ⌝ }
 {
     if room == 0 {
-        return skip_leaf(s, at, kind, limits);
+        return leaves::skip_leaf(s, at, kind, limits);
     }
     match kind {
         TType::List => skip_list(s, at, room - 1, limits),
         TType::Set => skip_list(s, at, room - 1, limits),
         TType::Map => skip_map(s, at, room - 1, limits),
         TType::Struct => skip_struct(s, at, room - 1, limits),
-        TType::Stop => skip_leaf(s, at, kind, limits),
-        TType::Bool => skip_leaf(s, at, kind, limits),
-        TType::I08 => skip_leaf(s, at, kind, limits),
-        TType::I16 => skip_leaf(s, at, kind, limits),
-        TType::I32 => skip_leaf(s, at, kind, limits),
-        TType::I64 => skip_leaf(s, at, kind, limits),
-        TType::Double => skip_leaf(s, at, kind, limits),
-        TType::String => skip_leaf(s, at, kind, limits),
-        TType::Uuid => skip_leaf(s, at, kind, limits),
+        TType::Stop => leaves::skip_leaf(s, at, kind, limits),
+        TType::Bool => leaves::skip_leaf(s, at, kind, limits),
+        TType::I08 => leaves::skip_leaf(s, at, kind, limits),
+        TType::I16 => leaves::skip_leaf(s, at, kind, limits),
+        TType::I32 => leaves::skip_leaf(s, at, kind, limits),
+        TType::I64 => leaves::skip_leaf(s, at, kind, limits),
+        TType::Double => leaves::skip_leaf(s, at, kind, limits),
+        TType::String => leaves::skip_leaf(s, at, kind, limits),
+        TType::Uuid => leaves::skip_leaf(s, at, kind, limits),
     }
 }
 
@@ -179,6 +79,9 @@ fn skip_list(s: &[u8], at: Place, room: usize, limits: TConfiguration) -> Skippe
         ListHead::Refused(why) => Skipped::Refused(why),
         ListHead::Got(kind, count, next) => {
             if can_begin(kind, count) {
+                if leaves::is_leaf(kind) {
+                    return leaves::skip_leaves(s, next, kind, count, limits);
+                }
                 let mut left = count;
                 let mut p = next;
                 while 0 < left {
@@ -257,6 +160,13 @@ fn skip_struct(s: &[u8], at: Place, room: usize, limits: TConfiguration) -> Skip
     let mut p = at;
     let mut last = FieldId(0);
     loop {
+        let run = leaves::skip_fields(s, p, last);
+        p = run.place;
+        last = run.last;
+        let end = leaves::past_stop(s, p);
+        if p.0 < end.0 {
+            return Skipped::Done(end);
+        }
         match heads::read_field_begin(s, p, last) {
             FieldHead::Stop(e) => {
                 return Skipped::Done(e);

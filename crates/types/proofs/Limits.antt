@@ -13,7 +13,7 @@ pub record Ranged (lim : TConfiguration) : Type 0 where
   pub long : lim .string ≤ 2147483647
   pub large : lim .container ≤ 2147483647
 
-both : (a b : Bool) → (a && b) ≡ true → (a ≡ true) × (b ≡ true)
+pub both : (a b : Bool) → (a && b) ≡ true → (a ≡ true) × (b ≡ true)
 both true b e = (refl, e)
 both false b e = let z : _≡_ {A = ℕ} 0 1 = cc in absurd (omega arith)
 

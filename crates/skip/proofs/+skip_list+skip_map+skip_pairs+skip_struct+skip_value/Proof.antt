@@ -8,7 +8,7 @@ use Rattle.types.specs.Value.{truth}
 use Rattle.skip.specs.Walk.{fields}
 use Rattle.skip.specs.Value.{many, manyPairs, valueOf}
 use Rattle.skip.specs.Skip.{past}
-use Rattle.skip.proofs.Cycle.{list-cases, pairs-cases, map-cases, struct-cases, value-cases, bool-less, value-less}
+use Rattle.skip.proofs.Cycle.{list-cases, pairs-cases, map-cases, struct-cases, value-cases, run-less}
 use borrow.Fn.Kinds.{In}
 use borrow.Fn.PlainCycle.{Measures, is, falls, and}
 use Rattle.skip.proofs.skip_list.Reads as skip-list
@@ -30,7 +30,11 @@ use Rattle.heads.proofs.read_field_begin.Reads as read-field-begin-reads
 use Rattle.heads.proofs.read_list_begin.Reads as read-list-begin-reads
 use Rattle.heads.proofs.read_map_begin.Reads as read-map-begin-reads
 use Rattle.skip.proofs.can_begin.Reads as can-begin-reads
-use Rattle.skip.proofs.skip_leaf.Reads as skip-leaf-reads
+use Rattle.skip.proofs.leaves.is_leaf.Reads as is-leaf-reads
+use Rattle.skip.proofs.leaves.skip_fields.Reads as skip-fields-reads
+use Rattle.skip.proofs.leaves.skip_leaf.Reads as skip-leaf-reads
+use Rattle.skip.proofs.leaves.skip_leaves.Reads as skip-leaves-reads
+use Rattle.skip.proofs.leaves.past_stop.Reads as past-stop-reads
 use Rattle.skip.proofs.+skip_list+skip_map+skip_pairs+skip_struct+skip_value.{statement}
 use Rattle.skip.proofs.+skip_list+skip_map+skip_pairs+skip_struct+skip_value.Tie.{close}
 
@@ -112,6 +116,10 @@ pub +skip-list+skip-map+skip-pairs+skip-struct+skip-value-spec : {M : Type 1} �
       read-list-begin-reads.Learnt,
       can-begin-reads.Asked,
       can-begin-reads.Learnt,
+      is-leaf-reads.Asked,
+      is-leaf-reads.Learnt,
+      skip-leaves-reads.Asked,
+      skip-leaves-reads.Learnt,
       skip-value-below t,
       skip-value.Post,
     )
@@ -123,6 +131,9 @@ pub +skip-list+skip-map+skip-pairs+skip-struct+skip-value-spec : {M : Type 1} �
     (λ c. search needs)
     (λ c. search needs)
     (λ c κs. search needs)
+    (λ c κs. search needs)
+    (λ c κs. search needs)
+    (λ c. search list-cases)
     (λ c. refl)
     (λ c κs. (omega arith, tt))
     (λ c. search needs)
@@ -174,6 +185,10 @@ pub +skip-list+skip-map+skip-pairs+skip-struct+skip-value-spec : {M : Type 1} �
     (λ c. search pairs-cases)
     (λ c. search pairs-cases))
     (λ t. skip-struct-lts.spec (
+      skip-fields-reads.Asked,
+      skip-fields-reads.Learnt,
+      past-stop-reads.Asked,
+      past-stop-reads.Learnt,
       read-field-begin-reads.Asked,
       read-field-begin-reads.Learnt,
       skip-value-below t,
@@ -185,17 +200,20 @@ pub +skip-list+skip-map+skip-pairs+skip-struct+skip-value-spec : {M : Type 1} �
     skip-struct-μ-loop
     (λ c. refl)
     (λ c κs. search needs)
+    (λ c κs. search needs)
+    (λ c. search struct-cases)
+    (λ c κs. search needs)
     (λ c. search needs)
     (λ c. search struct-cases)
     (λ c. search needs)
     (λ c. search struct-cases)
     (λ c. search needs)
-    (λ c. search (bool-less, value-less))
+    (λ c. search run-less)
     (λ c. search struct-cases)
     (λ c. search needs)
     (λ c κs. (omega arith, tt))
     (λ c. search needs)
-    (λ c. search (bool-less, value-less))
+    (λ c. search run-less)
     (λ c. search struct-cases)
     (λ c. search needs)
     (λ c. search struct-cases))

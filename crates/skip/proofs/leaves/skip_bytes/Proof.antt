@@ -1,10 +1,10 @@
 use borrow.Author.Needs.{needs}
 use Rattle.skip.proofs.Leaf.{leaf-ends}
-use Rattle.skip.proofs.skip_i16.Statement.{statement}
-use Rattle.skip.proofs.skip_i16.Tie as tie
+use Rattle.skip.proofs.leaves.skip_bytes.Statement.{statement}
+use Rattle.skip.proofs.leaves.skip_bytes.Tie as tie
 
-pub skip-i16-spec : {M : Type 1} → statement M
-skip-i16-spec =
+pub skip-bytes-spec : {M : Type 1} → statement M
+skip-bytes-spec =
     tie.close
     (tie.spec
     (λ c κs. search needs)

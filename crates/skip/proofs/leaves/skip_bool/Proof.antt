@@ -1,7 +1,7 @@
 use borrow.Author.Needs.{needs}
 use Rattle.skip.proofs.Leaf.{leaf-ends}
-use Rattle.skip.proofs.skip_bool.Statement.{statement}
-use Rattle.skip.proofs.skip_bool.Tie as tie
+use Rattle.skip.proofs.leaves.skip_bool.Statement.{statement}
+use Rattle.skip.proofs.leaves.skip_bool.Tie as tie
 
 pub skip-bool-spec : {M : Type 1} → statement M
 skip-bool-spec =

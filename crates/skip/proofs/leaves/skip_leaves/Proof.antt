@@ -1,0 +1,50 @@
+use borrow.Author.Needs.{needs}
+use Rattle.skip.proofs.Runs.{leaves-cases}
+use Rattle.skip.proofs.leaves.skip_leaves.Statement.{statement}
+use Rattle.skip.proofs.leaves.skip_leaves.Tie as tie
+
+pub skip-leaves-spec : {M : Type 1} → statement M
+skip-leaves-spec =
+    tie.close
+    (tie.spec
+    (λ c. search needs)
+    (λ c κs. search needs)
+    (λ c. search needs)
+    (λ c κs. search needs)
+    (λ c. search needs)
+    (λ c κs. search needs)
+    (λ c. search needs)
+    (λ c κs. search needs)
+    (λ c. search needs)
+    (λ c κs. search needs)
+    (λ c. search needs)
+    (λ c κs. search needs)
+    (λ c. search needs)
+    (λ c. search needs)
+    (λ c κs. search needs)
+    (λ c. search needs)
+    (λ c κs. search needs)
+    (λ c. search needs)
+    (λ c κs. search needs)
+    (λ c. search needs)
+    (λ c κs. search needs)
+    (λ c. search needs)
+    (λ c κs. search needs)
+    (λ c. search needs)
+    (λ c κs. search needs)
+    (λ c. search needs)
+    (λ c. search needs)
+    (λ c κs. search needs)
+    (λ c. search leaves-cases)
+    (λ c. search leaves-cases)
+    (λ c. search leaves-cases)
+    (λ c. search leaves-cases)
+    (λ c. search leaves-cases)
+    (λ c. search leaves-cases)
+    (λ c. search leaves-cases)
+    (λ c. search leaves-cases)
+    (λ c. search leaves-cases)
+    (λ c. search leaves-cases)
+    (λ c. search leaves-cases)
+    (λ c. search leaves-cases)
+    (λ c. search leaves-cases))
