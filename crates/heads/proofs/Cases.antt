@@ -312,7 +312,7 @@ binary-part s lim at bs e f = go (leb (g .0) (lim .string)) refl
     go true h = some-part s (g .0) (g .1) bs e (number32-inside s at (g .0) (g .1) (g .2)) (sym (provided-yes s (g .1) _ _ _ h) ∙ g .3)
     go false h = not-both (sym (provided-no s (g .1) _ _ _ h) ∙ g .3)
 
-is-part : (x : Found (List ℕ)) (a z : Place) → toPart x ≡ P.Got a z → (bs : List ℕ) × (x ≡ got bs (z .0)) × (a .0 ≡ z .0 - length bs)
+pub is-part : (x : Found (List ℕ)) (a z : Place) → toPart x ≡ P.Got a z → (bs : List ℕ) × (x ≡ got bs (z .0)) × (a .0 ≡ z .0 - length bs)
 is-part (got bs e) a z f =
     let zz : place e ≡ z = cc in
     let aa : place (e - length bs) ≡ a = cc in
@@ -320,7 +320,7 @@ is-part (got bs e) a z f =
     (bs, ap (got bs) ze, sym (ap (λ (q : Place). q .0) aa) ∙ ap (λ (m : ℕ). m - length bs) ze)
 is-part (refused why) a z f = let o : _≡_ {A = ℕ} 0 1 = cc in absurd (omega arith)
 
-no-part : (x : Found (List ℕ)) (why : ℕ) → toPart x ≡ P.Refused why → x ≡ refused why
+pub no-part : (x : Found (List ℕ)) (why : ℕ) → toPart x ≡ P.Refused why → x ≡ refused why
 no-part (got bs e) why f = let o : _≡_ {A = ℕ} 0 1 = cc in absurd (omega arith)
 no-part (refused u) why f = cc
 

@@ -3,3 +3,4 @@ pub mod Steps
 pub mod Cases
 pub mod Fields
 pub mod Readers
+pub mod Tails

@@ -23,7 +23,7 @@ pub lost-at : {A : Type 0} (at : ℕ) (x : Found A) (why : ℕ) → placed at x 
 lost-at at (got b n) why f = not-both (sym f)
 lost-at at (refused why′) why f = f
 
-placed-placed : {A : Type 0} (m n : ℕ) (x : Found A) → placed m (placed n x) ≡ placed (m + n) x
+pub placed-placed : {A : Type 0} (m n : ℕ) (x : Found A) → placed m (placed n x) ≡ placed (m + n) x
 placed-placed m n (got a k) = ap (got a) (omega arith)
 placed-placed m n (refused why) = refl
 

@@ -61,7 +61,7 @@ pub numMessage : (e : ℕ) (x : Said Message) → numberMessage (toMessage e x) 
 numMessage e (says a) = refl
 numMessage e (refuses why) = refl
 
-numDone : (x : Said (Unit {0})) → numberDone (toDone x) ≡ numberOf x
+pub numDone : (x : Said (Unit {0})) → numberDone (toDone x) ≡ numberOf x
 numDone (says a) = refl
 numDone (refuses why) = refl
 

@@ -17,8 +17,7 @@ use Rattle.types.specs.declared.TConfiguration.{TConfiguration}
 use Rattle.utf8.specs.Utf8.{utf8}
 use Rattle.numbers.specs.Varint.{got}
 use Rattle.heads.specs.Reader.{Reader, readAt, done, andThen, provided, byte, some}
-use Rattle.heads.proofs.Lawful.{not-both}
-use Rattle.heads.proofs.Steps.{split, done-at}
+use Rattle.heads.proofs.Tails.{uuid-tail, binary-tail, text-tail, message-tail, tail-slice}
 use Rattle.types.specs.declared.Place.{Place}
 use Rattle.types.specs.declared.SeqNo.{SeqNo}
 use Rattle.types.specs.declared.TMessageType.{TMessageType}
@@ -176,85 +175,20 @@ module _ (s : List ℕ) (st : State) (r : ReadMessage) (e : r ≡ readMessage s 
 
 pub ruleset message-parts = (message-order, message-inside, message-part, message-none)
 
--- The bytes of a part are those that its reader read: they stand just before the end.
-pub record Tail (s cs : List ℕ) (e : ℕ) : Type 0 where
-  pub fits : length cs ≤ e
-  pub is : slice (e - length cs) e s ≡ cs
-
-some-tail : (s : List ℕ) (n at : ℕ) (cs : List ℕ) (e : ℕ) → readAt (some n) s at ≡ got cs e → Tail s cs e
-unfolding readAt some
-some-tail s n at cs e f = go (leb n (length (drop at s))) refl
-  where
-    go : (b : Bool) → leb n (length (drop at s)) ≡ b → Tail s cs e
-    go true g =
-        let h : got (take n (drop at s)) (at + n) ≡ got cs e = rw g at f in
-        let l : take n (drop at s) ≡ cs = cc in
-        let ee : at + n ≡ e = cc in
-        let fit : length cs ≡ n = ap length (sym l) ∙ length-take-le n (drop at s) (leb-true _ _ g) in
-        let start : e - length cs ≡ at = omega arith in
-        record { fits = omega arith; is = rw (start, ← ee) (sym (take-drop at n s) ∙ l) }
-    go false g = not-both (rw g at f)
-
-allowed : {A : Type 0} (ok : Bool) (why : ℕ) (p : Reader A) (s : List ℕ) (at : ℕ) (a : A) (e : ℕ) → readAt (provided ok why p) s at ≡ got a e → readAt p s at ≡ got a e
-unfolding readAt provided
-allowed true why p s at a e f = f
-allowed false why p s at a e f = not-both f
-
--- a reader that takes nothing more
-done-back : {A : Type 0} (a b : A) (s : List ℕ) (at e : ℕ) → readAt (done a) s at ≡ got b e → got a at ≡ got b e
-done-back a b s at e f = sym (done-at s at a) ∙ f
-
-same-tail : (s cs bs : List ℕ) (m e : ℕ) → got bs m ≡ got cs e → Tail s bs m → Tail s cs e
-same-tail s cs bs m e f t = let x : bs ≡ cs = cc in let y : m ≡ e = cc in rw (← x, ← y) t
-
-module _ (lim : TConfiguration) (s : List ℕ) where
-  binary-tail : (at : ℕ) (cs : List ℕ) (e : ℕ) → readAt (binary lim) s at ≡ got cs e → Tail s cs e
-  unfolding binary
-  binary-tail at cs e f =
-      let g = split number32 (λ n. provided (leb n (lim .string)) SIZE-LIMIT (some n)) s at cs e f in
-      some-tail s (g .0) (g .1) cs e (allowed _ _ (some (g .0)) s (g .1) cs e (g .3))
-
-  text-tail : (at : ℕ) (cs : List ℕ) (e : ℕ) → readAt (text lim) s at ≡ got cs e → Tail s cs e
-  unfolding text
-  text-tail at cs e f =
-      let g = split (binary lim) (λ bs. provided (utf8 bs) BAD-UTF8 (done bs)) s at cs e f in
-      same-tail s cs (g .0) (g .1) e (done-back (g .0) cs s (g .1) e (allowed _ _ (done (g .0)) s (g .1) cs e (g .3))) (binary-tail at (g .0) (g .1) (g .2))
-
-  named-tail : (m : TMessageType) (at : ℕ) (a : Message) (e : ℕ) → readAt (named lim m) s at ≡ got a e → Tail s (a .2) e
-  unfolding named
-  named-tail m at a e f =
-      let g = split number32 (λ n. andThen (text lim) (λ name. done (m, toZ w32 n, name))) s at a e f in
-      let h = split (text lim) (λ name. done (m, toZ w32 (g .0), name)) s (g .1) a e (g .3) in
-      let k : got (m, toZ w32 (g .0), h .0) (h .1) ≡ got a e = done-back (m, toZ w32 (g .0), h .0) a s (h .1) e (h .3) in
-      let x : (m, toZ w32 (g .0), h .0) ≡ a = cc in
-      let y : h .1 ≡ e = cc in
-      let z : h .0 ≡ a .2 = ap (λ (q : Message). q .2) x in
-      same-tail s (a .2) (h .0) (h .1) e (ap₂ got z y) (text-tail (g .1) (h .0) (h .1) (h .2))
-
-  message-tail : (at : ℕ) (a : Message) (e : ℕ) → readAt (message lim) s at ≡ got a e → Tail s (a .2) e
-  unfolding message versioned
-  message-tail at a e f =
-      let g = split byte (λ b. provided (eqb b 0x82) BAD-VERSION (versioned lim)) s at a e f in
-      let v = allowed _ _ (versioned lim) s (g .1) a e (g .3) in
-      let h = split byte (λ b. provided (eqb (b % 32) 1) BAD-VERSION (andThen (messageTyped (messageByNumber (b / 32))) (named lim))) s (g .1) a e v in
-      let w = allowed _ _ (andThen (messageTyped (messageByNumber (h .0 / 32))) (named lim)) s (h .1) a e (h .3) in
-      let k = split (messageTyped (messageByNumber (h .0 / 32))) (named lim) s (h .1) a e w in
-      named-tail (k .0) (k .1) a e (k .3)
-
 -- what the second calls hand out, where the first reads these bytes
 module _ (s : List ℕ) (st : State) (f : sound (length s) st ≡ true) (w : busy st ≡ false) where
   pub uuid-handed : (bs : List ℕ) (e : ℕ) → readAt uuid s (st .place .0) ≡ got bs e → uuidPart s st ≡ bs
-  unfolding uuidPart readUuid uuid
-  uuid-handed bs e r = ap (λ (o : Outcome (List ℕ)). partOf s (asPart o .answer)) (read-well (λ st. uuid) stays s st f w bs e r) ∙ some-tail s 16 (st .place .0) bs e r .is
+  unfolding uuidPart readUuid
+  uuid-handed bs e r = ap (λ (o : Outcome (List ℕ)). partOf s (asPart o .answer)) (read-well (λ st. uuid) stays s st f w bs e r) ∙ tail-slice s bs e (uuid-tail s (st .place .0) bs e r)
 
   pub bytes-handed : (bs : List ℕ) (e : ℕ) → readAt (binary (st .limits)) s (st .place .0) ≡ got bs e → bytesPart s st ≡ bs
   unfolding bytesPart readBytes
-  bytes-handed bs e r = ap (λ (o : Outcome (List ℕ)). partOf s (asPart o .answer)) (read-well (λ st. binary (st .limits)) stays s st f w bs e r) ∙ binary-tail (st .limits) s (st .place .0) bs e r .is
+  bytes-handed bs e r = ap (λ (o : Outcome (List ℕ)). partOf s (asPart o .answer)) (read-well (λ st. binary (st .limits)) stays s st f w bs e r) ∙ tail-slice s bs e (binary-tail (st .limits) s (st .place .0) bs e r)
 
   pub string-handed : (bs : List ℕ) (e : ℕ) → readAt (text (st .limits)) s (st .place .0) ≡ got bs e → stringPart s st ≡ bs
   unfolding stringPart readString
-  string-handed bs e r = ap (λ (o : Outcome (List ℕ)). partOf s (asPart o .answer)) (read-well (λ st. text (st .limits)) stays s st f w bs e r) ∙ text-tail (st .limits) s (st .place .0) bs e r .is
+  string-handed bs e r = ap (λ (o : Outcome (List ℕ)). partOf s (asPart o .answer)) (read-well (λ st. text (st .limits)) stays s st f w bs e r) ∙ tail-slice s bs e (text-tail (st .limits) s (st .place .0) bs e r)
 
   pub name-handed : (m : Message) (e : ℕ) → readAt (message (st .limits)) s (st .place .0) ≡ got m e → namePart s st ≡ m .2
   unfolding namePart readMessage
-  name-handed m e r = ap (λ (o : Outcome Message). nameOf s (asMessage o .answer)) (read-well (λ st. message (st .limits)) anew s st f w m e r) ∙ message-tail (st .limits) s (st .place .0) m e r .is
+  name-handed m e r = ap (λ (o : Outcome Message). nameOf s (asMessage o .answer)) (read-well (λ st. message (st .limits)) anew s st f w m e r) ∙ tail-slice s (m .2) e (message-tail (st .limits) s (st .place .0) m e r)

@@ -26,7 +26,7 @@ use Rattle.input.specs.declared.Awaited.the-variants as W
 use Rattle.input.proofs.Gate.{Sound, is-sound, sound-is, Gated, bad, turn, through, gated}
 use Rattle.input.proofs.Refusals.{Shown, Told, truth-told}
 
-not-true : {X : Type 0} {b : Bool} → b ≡ false → b ≡ true → X
+pub not-true : {X : Type 0} {b : Bool} → b ≡ false → b ≡ true → X
 not-true f g = let z : _≡_ {A = Bool} false true = sym f ∙ g in let o : _≡_ {A = ℕ} 0 1 = cc in absurd (omega arith)
 
 -- what is promised of a call; `late` says which states it is out of turn in

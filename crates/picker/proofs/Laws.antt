@@ -25,7 +25,7 @@ use Rattle.input.specs.declared.Awaited.{Awaited}
 use Rattle.input.specs.declared.Awaited.the-variants as W
 use Rattle.input.specs.declared.ReadDone.{ReadDone}
 use Rattle.input.proofs.Gate.{Gated, bad, turn, through, gated}
-use Rattle.input.proofs.Laws.{CallLaws}
+use Rattle.input.proofs.Laws.{CallLaws, not-true}
 use Rattle.skip.specs.Walk.{Entry, fields}
 use Rattle.skip.specs.Value.{valueOf}
 use Rattle.skip.specs.Skip.{skipOf, over, roomOf, awaited, skips, skipCall}
@@ -36,12 +36,9 @@ use Rattle.skip.proofs.Laws.{late, skip-laws}
 use Rattle.wanted.specs.Wanted.{listed}
 use Rattle.picker.specs.Pick.{onStruct, picks, forgets, pickCall, written, pickedRows}
 use Rattle.picker.proofs.Call.{struct-no, struct-yes, goes-on}
+use Rattle.skip.proofs.Call.{nothing-waits}
 
 -- the gate of a sound state with no bool pending, and what skip does there
-no-waiting : (w : Awaited) → waits w ≡ false → w ≡ W.Nothing
-no-waiting W.Nothing e = refl
-no-waiting (W.Truth b) e = let z : _≡_ {A = ℕ} 0 1 = cc in absurd (omega arith)
-
 module _ (s : List ℕ) (st : State) where
   -- skip of Struct, by the gate
   skip-bad : sound (length s) st ≡ false → skips T.Struct s st ≡ declines BAD-STATE st
@@ -58,7 +55,7 @@ module _ (s : List ℕ) (st : State) where
 
   skip-through : sound (length s) st ≡ true → waits (st .pending .0) ≡ false → skips T.Struct s st ≡ over st (skipOf s (st .limits) (roomOf st) T.Struct (st .place .0))
   unfolding skips
-  skip-through e w = rw (e, no-waiting (st .pending .0) w)
+  skip-through e w = rw (e, nothing-waits (st .pending .0) w)
 
   -- no room: DEPTH, before the first byte
   shut-out : st .limits .depth ≤ st .depth → skipOf s (st .limits) (roomOf st) T.Struct (st .place .0) ≡ Refused DEPTH
@@ -116,9 +113,6 @@ pub record Flat (why : ℕ) : Type 0 where
   pub turnless : why ≡ OUT-OF-TURN → ⊥
   pub stateless : why ≡ BAD-STATE → ⊥
 
-clash : {X : Type 0} {b : Bool} → b ≡ false → b ≡ true → X
-clash f g = let z : _≡_ {A = Bool} false true = sym f ∙ g in let o : _≡_ {A = ℕ} 0 1 = cc in absurd (omega arith)
-
 module _ (why : State → ℕ) (fl : (st : State) → Flat (why st)) where
   abbrev flatly : List ℕ → State → ReadDone
   flatly s st = asDone (guarded s st (declines (why st) st))
@@ -173,8 +167,8 @@ module _ (why : State → ℕ) (fl : (st : State) → Flat (why st)) where
       where
         go : Ends s st → number ≡ BAD-STATE
         go (badly f e) = num BAD-STATE e
-        go (early f w e) = clash z f
-        go (plain f w e) = clash z f
+        go (early f w e) = not-true z f
+        go (plain f w e) = not-true z f
 
     by-turn : number ≡ OUT-OF-TURN → (sound (length s) st ≡ true) × (late T.Struct st ≡ true)
     by-turn z = go (ends s st)
@@ -188,9 +182,9 @@ module _ (why : State → ℕ) (fl : (st : State) → Flat (why st)) where
     to-turn x y = go (ends s st)
       where
         go : Ends s st → number ≡ OUT-OF-TURN
-        go (badly f e) = clash f x
+        go (badly f e) = not-true f x
         go (early f w e) = num OUT-OF-TURN e
-        go (plain f w e) = clash w y
+        go (plain f w e) = not-true w y
 
   flat-laws : CallLaws flatly (λ r. numberDone (r .answer)) (λ r. r .state) (late T.Struct)
   flat-laws =

@@ -32,6 +32,7 @@ use Rattle.skip.specs.Walk.{Entry, withSize, sizing, behind, fields}
 use Rattle.skip.specs.Value.{valueOf}
 use Rattle.skip.proofs.Walks.{fields-step}
 use Rattle.skip.proofs.Theorems.{was-spelt}
+use Rattle.skip.proofs.Cycle.{sizing-no}
 
 -- the type of what is read is the type asked for
 spelt-type : (t : Tree) (lim : TConfiguration) (room : ℕ) (ty : TType) (bs : List ℕ) → Spells t lim room ty bs → typeOf t ≡ ty
@@ -96,10 +97,6 @@ sized-at p s at a e f =
     let n : g .0 ≡ e - at = omega (arith, g .2) in
     (ap (λ (x : Found _). placed at (withSize x)) (g .1) ∙ ap₂ (λ (m : ℕ) (k : ℕ). got (a, m) k) n (g .2), omega (arith, g .2))
 
-sized-no : {A : Type 0} (p : Reader A) (s : List ℕ) (at why : ℕ) → readAt p s at ≡ refused why → readAt (sizing p) s at ≡ refused why
-unfolding readAt sizing
-sized-no p s at why f = ap (λ (x : Found _). placed at (withSize x)) (lost-at at (p (drop at s)) why f)
-
 -- the entry of a field whose value stands from m to q, behind a header at p
 abbrev pub entry : ℤ → Tree → ℕ → ℕ → ℕ → Entry Tree
 entry id v p m q = record { id = id; what = v; head = m - p; size = q - m }
@@ -118,7 +115,7 @@ module _ (lim : TConfiguration) (room : ℕ) (s : List ℕ) where
 
     -- without a header there are no fields, and behind the last there are none
     pub headless : {X : Type 0} (why : ℕ) (fs : List (Entry Tree)) (e : ℕ) → readAt (field last) s p ≡ refused why → readAt (fields val.truth (valueOf lim room) last) s p ≡ got fs e → X
-    headless why fs e f g = not-both (sym (walked ∙ stop-at (sizing (field last)) _ s p why (sized-no (field last) s p why f)) ∙ g)
+    headless why fs e f g = not-both (sym (walked ∙ stop-at (sizing (field last)) _ s p why (sizing-no (field last) s p why f)) ∙ g)
 
     pub none-left : (m : ℕ) (fs : List (Entry Tree)) (e : ℕ) → readAt (field last) s p ≡ got stop m → readAt (fields val.truth (valueOf lim room) last) s p ≡ got fs e → fs ≡ []
     none-left m fs e f g =
@@ -149,7 +146,7 @@ module _ (lim : TConfiguration) (room : ℕ) (s : List ℕ) where
           behind-one _ id q fs e (sym (step (sizing (valueOf lim room t)) _ s m (v, q - m) q (sized-at (valueOf lim room t) s m v q h .0)) ∙ sym (begun (value t id) m f) ∙ g)
 
       pub valueless : {X : Type 0} (why : ℕ) → readAt (valueOf lim room t) s m ≡ refused why → X
-      valueless why h = not-both (sym (begun (value t id) m f ∙ stop-at (sizing (valueOf lim room t)) _ s m why (sized-no (valueOf lim room t) s m why h)) ∙ g)
+      valueless why h = not-both (sym (begun (value t id) m f ∙ stop-at (sizing (valueOf lim room t)) _ s m why (sizing-no (valueOf lim room t) s m why h)) ∙ g)
 
     -- and forwards: a field, and the fields behind it
     pub walk-stop : (m : ℕ) → readAt (field last) s p ≡ got stop m → readAt (fields val.truth (valueOf lim room) last) s p ≡ got [] m

@@ -39,7 +39,7 @@ use Rattle.printer.specs.Printing.{messageTold, limits, ending, whole, report, 
 use Rattle.printer.specs.declared.Text.{Text}
 use Rattle.printer.specs.declared.Text.the-variants as X
 use Rattle.printer.proofs.Prints.{lines-append}
-use Rattle.printer.proofs.Leaf.{binary-tail, uuid-tail, message-tail}
+use Rattle.heads.proofs.Tails.{binary-tail, uuid-tail, message-tail}
 
 -- how long the pieces of a line are
 digits-length : (k n : ℕ) → length (digits k n) ≤ suc k

@@ -42,9 +42,7 @@ use Rattle.printer.specs.declared.Printed.{Printed}
 use Rattle.printer.specs.declared.Printed.the-variants.{Went, Stopped}
 use Rattle.printer.proofs.Prints.{Page, Tells, went, stopped, quiet-tells, prints-step, prints-stop, prints-aloud, prints-done, prints-made, prints-yes, prints-no}
 use Rattle.printer.proofs.Walks.{fields-step}
-
-no-leaf : {X : Type 0} → false ≡ true → X
-no-leaf e = let z : _≡_ {A = ℕ} 0 1 = cc in absurd (omega arith)
+use Rattle.skip.proofs.Leaf.{no-leaf}
 
 -- types that hold no other value are told alike with any room
 same-shape : (lim : TConfiguration) (b c : Boxes) (t : TType) → isLeaf t ≡ true → shapedTold lim b t ≡ shapedTold lim c t

@@ -11,7 +11,7 @@ use Rattle.types.specs.declared.Place.{Place}
 use Rattle.numbers.specs.Varint.{Found, got, refused, placed}
 use Rattle.heads.specs.Reader.{Reader, done, refuse, readAt}
 use Rattle.heads.specs.Answers.{place}
-use Rattle.heads.proofs.Steps.{found-at, lost-at}
+use Rattle.heads.proofs.Steps.{found-at, lost-at, placed-placed}
 use Rattle.text.specs.Pen.{Pen, inked}
 use Rattle.text.proofs.Inks.{inked-append, inked-none, inked-length}
 use Rattle.lines.specs.Lines.{Item, line, lines}
@@ -42,10 +42,6 @@ pub lines-append : (is js : List Item) → lines (is ++ js) ≡ lines is ++ line
 unfolding lines
 lines-append [] js = refl
 lines-append (i ∷ is) js = ap (λ (l : List ℕ). line i ++ l) (lines-append is js) ∙ sym (append-assoc (line i) (lines is) (lines js))
-
-placed-placed : {A : Type 0} (m n : ℕ) (x : Found A) → placed m (placed n x) ≡ placed (m + n) x
-placed-placed m n (got a k) = ap (got a) (omega arith)
-placed-placed m n (refused why) = refl
 
 -- what a telling at a place finds, and the pen behind its lines
 pub record Tells {A : Type 0} (t : Teller A) (s : List ℕ) (at : ℕ) (p : Pen) (x : Found A) (q : Pen) : Type 0 where

@@ -27,6 +27,7 @@ use Rattle.lines.specs.Lines.{Item}
 use Rattle.printer.specs.Telling.{Told, Teller, quiet, aloud, onwardT, thenTell, making, providedT, voiced}
 use Rattle.printer.specs.Value.{rowTold, manyTold, pairTold, addPair, pairsTold, itemsTold, mapTold, behindTold, walkTold, fieldsTold, structTold, Boxes, shutTold, roomyTold, shapedTold, valueTold}
 use Rattle.printer.specs.Printing.{messageTold}
+use Rattle.heads.proofs.Steps.{placed-placed}
 
 -- a telling finds what a reader reads
 abbrev pub Finds : {A : Type 0} → Teller A → Reader A → Type 0
@@ -36,10 +37,6 @@ Finds t p = (bs : List ℕ) → t bs .found ≡ p bs
 placed-none : {A : Type 0} (x : Found A) → placed 0 x ≡ x
 placed-none (got a n) = ap (got a) (omega arith)
 placed-none (refused why) = refl
-
-placed-placed : {A : Type 0} (m n : ℕ) (x : Found A) → placed m (placed n x) ≡ placed (m + n) x
-placed-placed m n (got a k) = ap (got a) (omega arith)
-placed-placed m n (refused why) = refl
 
 done-then : {A B : Type 0} (a : A) (k : A → Reader B) (bs : List ℕ) → andThen (done a) k bs ≡ k a bs
 unfolding andThen done

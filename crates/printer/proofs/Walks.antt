@@ -15,6 +15,7 @@ use Rattle.heads.proofs.Readers.{field-lawful, field-takes}
 use Rattle.lines.specs.Lines.{Item}
 use Rattle.printer.specs.Telling.{Told, Teller, quiet, aloud, onwardT, thenTell}
 use Rattle.printer.specs.Value.{behindTold, walkTold, fieldsTold}
+use Rattle.skip.proofs.Walks.{shorter}
 
 -- two ways to go on that agree behind what was found
 onward-same : {A B : Type 0} (k l : A → Teller B) (bs : List ℕ) (is : List Item) (x : Found A) → ((a : A) (n : ℕ) → x ≡ got a n → k a (drop n bs) ≡ l a (drop n bs)) → onwardT k bs is x ≡ onwardT l bs is x
@@ -33,9 +34,6 @@ first-same {A} t u k bs e = ap (λ (x : Told A). onwardT k bs (x .items) (x .fou
 pub aloud-same : {A : Type 0} (i : Item) (t u : Teller A) (bs : List ℕ) → t bs ≡ u bs → aloud i t bs ≡ aloud i u bs
 unfolding aloud
 aloud-same {A} i t u bs e = ap (λ (x : Told A). record { items = i ∷ x .items; found = x .found }) e
-
-shorter : (n : ℕ) (bs : List ℕ) → length (drop n bs) ≤ length bs
-shorter n bs = omega (arith, length-drop n bs)
 
 module _ (inner : TType → Teller Tree) where
   -- no byte, no header

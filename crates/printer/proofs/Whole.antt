@@ -33,7 +33,8 @@ use Rattle.printer.specs.declared.Printed.the-variants.{Went, Stopped}
 use Rattle.printer.specs.declared.Text.{Text}
 use Rattle.printer.specs.declared.Text.the-variants as X
 use Rattle.printer.proofs.Prints.{Page, Tells, lines-append, went, stopped, quiet-tells, prints-step, prints-stop, prints-aloud}
-use Rattle.printer.proofs.Leaf.{Between, between, message-tail}
+use Rattle.heads.proofs.Tails.{message-tail}
+use Rattle.printer.proofs.Leaf.{Between, between}
 use Rattle.printer.proofs.Same.{message-ends}
 
 -- print_message: the name is the part between the places that the call answered

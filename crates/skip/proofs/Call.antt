@@ -83,7 +83,7 @@ to-end : (st : State) (x : Skipped) (e : ℕ) → asDone (over st x) ≡ skipped
 to-end st (Done q) e f = let p : q ≡ place e = ap (λ (r : ReadDone). r .state .place) f in ap Done p
 to-end st (Refused why) e f = let a : N.Refused why ≡ N.Done = ap (λ (r : ReadDone). r .answer) f in let z : _≡_ {A = ℕ} 0 1 = cc in absurd (omega arith)
 
-nothing-waits : (w : Awaited) → waits w ≡ false → w ≡ W.Nothing
+pub nothing-waits : (w : Awaited) → waits w ≡ false → w ≡ W.Nothing
 nothing-waits W.Nothing e = refl
 nothing-waits (W.Truth b) e = let z : _≡_ {A = ℕ} 0 1 = cc in absurd (omega arith)
 

@@ -267,7 +267,7 @@ sizing-at p s at a e f =
     let g = found-at at (p (drop at s)) a e f in
     (g .0, ap (λ (x : Found _). placed at (withSize x)) (g .1) ∙ ap (got (a, g .0)) (g .2))
 
-sizing-no : {A : Type 0} (p : Reader A) (s : List ℕ) (at why : ℕ) → readAt p s at ≡ refused why → readAt (sizing p) s at ≡ refused why
+pub sizing-no : {A : Type 0} (p : Reader A) (s : List ℕ) (at why : ℕ) → readAt p s at ≡ refused why → readAt (sizing p) s at ≡ refused why
 unfolding readAt sizing
 sizing-no p s at why f = ap (λ (x : Found _). placed at (withSize x)) (lost-at at (p (drop at s)) why f)
 

@@ -32,6 +32,7 @@ use Rattle.skip.specs.declared.Skipped.the-variants.{Done, Refused}
 use Rattle.skip.proofs.Past.{refused-past}
 use Rattle.skip.proofs.Told.{value-told}
 use Rattle.skip.proofs.Theorems.{skip-later, skip-inside, skip-behind}
+use Rattle.input.proofs.Each.{numDone}
 
 -- a bool waits, and the skip is not one of Bool
 abbrev pub late : TType → State → Bool
@@ -88,10 +89,6 @@ skip-ways kind s st = go (sound (length s) st) refl
     go true o = sound-way kind s st o (st .pending .0) refl
     go false o = unsound o (rw o)
 
-numbered : (x : Said (Unit {0})) → numberDone (toDone x) ≡ numberOf x
-numbered (says a) = refl
-numbered (refuses why) = refl
-
 pub skip-laws : (kind : TType) → CallLaws (λ s st. skipCall s st kind) (λ r. numberDone (r .answer)) (λ r. r .state) (late kind)
 unfolding skipCall
-skip-laws kind = laws (skips kind) (late kind) (skip-ways kind) asDone _ _ (λ o. numbered (o .said)) (λ o. refl)
+skip-laws kind = laws (skips kind) (late kind) (skip-ways kind) asDone _ _ (λ o. numDone (o .said)) (λ o. refl)

@@ -196,7 +196,7 @@ pub leaf-so : (kind t : TType) (b : Bool) → kind ≡ t → b ≡ isLeaf t → 
 leaf-so kind t b k e = rw k e
 
 -- types that hold no other value are read alike with any room
-no-leaf : {X : Type 0} → false ≡ true → X
+pub no-leaf : {X : Type 0} → false ≡ true → X
 no-leaf e = let z : _≡_ {A = ℕ} 0 1 = cc in absurd (omega arith)
 
 same-shape : (lim : TConfiguration) (b c : Boxes) (t : TType) → isLeaf t ≡ true → shaped lim b t ≡ shaped lim c t

@@ -29,7 +29,7 @@ pub first-same : {A B : Type 0} (p q : Reader A) (k : A → Reader B) (bs : List
 unfolding andThen
 first-same p q k bs e = ap (onward k bs) e
 
-shorter : (n : ℕ) (bs : List ℕ) → length (drop n bs) ≤ length bs
+pub shorter : (n : ℕ) (bs : List ℕ) → length (drop n bs) ≤ length bs
 shorter n bs = omega (arith, length-drop n bs)
 
 pub sized : {A : Type 0} (x : Found A) (v : A × ℕ) (n : ℕ) → withSize x ≡ got v n → x ≡ got (v .0) n

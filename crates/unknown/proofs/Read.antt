@@ -32,6 +32,7 @@ use Rattle.laws.proofs.Reading.{Gave}
 use Rattle.laws.proofs.Formed.{formed-read}
 use Rattle.unknown.specs.Inserted.{Told, absent, other, told, joined, lastIn, kindIn, kindOf}
 use Rattle.unknown.proofs.Link.{Link, link-more}
+use Rattle.skip.proofs.Call.{nothing-waits}
 
 -- a row beside a value that was read: it is the value's row, and a value that is no bool stands at its place
 pub record Points (lim : TConfiguration) (room : ℕ) (s : List ℕ) (row : Row) (t : Tree) : Type 0 where
@@ -73,11 +74,6 @@ module _ (lim : TConfiguration) (room : ℕ) (s : List ℕ) where
     linked (f ∷ fs) p h =
         link-more Stood (lastIn id k (fieldsOf fs)) _ _ (sameId (f .id) id) (eqb (typeCode (typeOf (f .what))) k) (owned p f) (f .what) (linked fs (p + f .head + f .size) (h .1)) (record { is = refl; at = h .0 })
 
--- no bool waits
-not-waiting : (w : Awaited) → waits w ≡ false → w ≡ W.Nothing
-not-waiting W.Nothing e = refl
-not-waiting (W.Truth b) e = let z : _≡_ {A = ℕ} 0 1 = cc in absurd (omega arith)
-
 -- a call that was answered, beside the same struct read by the calls
 pub record AsRead (plan : Plan) (s : List ℕ) (st : State) (fs : List (Entry Tree)) (e : ℕ) : Type 0 where
   -- the calls read the struct with these fields, and end where the picker does
@@ -94,7 +90,7 @@ as-read ids kinds n st s fs e w long plan x =
     let to : at + (e - at) ≡ e = omega arith in
     let f = was-spelt s (st .limits) (roomOf st) T.Struct at (at + (e - at)) (val.struct (fieldsOf fs)) (went-read ids kinds n st s fs e w ∙ ap (got (val.struct (fieldsOf fs))) (sym to)) in
     record {
-      gave = formed-read s st (w .sounds) (not-waiting (st .pending .0) (w .free)) long plan T.Struct (e - at) (record { tree = val.struct (fieldsOf fs); start = omega arith; inside = f .inside; spelt = f .spelt }) x;
+      gave = formed-read s st (w .sounds) (nothing-waits (st .pending .0) (w .free)) long plan T.Struct (e - at) (record { tree = val.struct (fieldsOf fs); start = omega arith; inside = f .inside; spelt = f .spelt }) x;
       ends = to;
       tells = λ id k. said (st .limits) (roomOf st - 1) s (lastIn id k (fieldsOf fs)) _ _ (linked (st .limits) (roomOf st - 1) s id k fs at (all-stand (st .limits) (roomOf st - 1) s fs (pos 0) at e (w .reads)));
     }
