@@ -8,15 +8,14 @@
  *
  * THE STATE of a reader or a writer is a row of TAGRUMZIL_ROW numbers, lent to each call:
  *   row[0]  the place of the next byte in the input or buffer
- *   row[1]  the last field id, as its zigzag number (0 as 0, -1 as 1, 1 as 2 ..), below 65536
+ *   row[1]  in the low 16 bits the last field id, in two's complement; above them what waits. Reader: 0 nothing, 1 a bool field's true, 2 its false. Writer:
+ *           0 nothing, or 1 more than the 16 bits of the id of the bool field whose header is to be written with its value
  *   row[2]  how many structs are open
- *   row[3]  what waits. Reader: 0 nothing, 1 a bool field's true, 2 its false. Writer: 0 nothing, or 1 more than the zigzag number of the id of the bool field
- *           whose header is to be written with its value
- *   row[4]  the limit on depth, 0 to 64
- *   row[5]  the limit on the length of a string or binary, 0 to 2147483647
- *   row[6]  the limit on the count of a container, 0 to 2147483647
- * A new one has zeros and its limits (tagrumzil_row below makes it). The ids of the structs around stand in a row of TAGRUMZIL_IDS numbers of their own, which
- * only the struct calls take. A row of another length, or with a number out of these ranges, holds no state: TAGRUMZIL_BAD_STATE.
+ *   row[3]  the limit on depth, 0 to 64
+ *   row[4]  in the low 32 bits the limit on the length of a string or binary, in the high 32 bits the limit on the count of a container; each 0 to 2147483647
+ * A new one has zeros and its limits (tagrumzil_row below makes it), and (int16_t) (uint16_t) row[1] is the last id of any. The ids of the structs around stand
+ * in a row of TAGRUMZIL_IDS numbers of their own, which only the struct calls take. A row of another length, or with a number out of these ranges, holds no
+ * state: TAGRUMZIL_BAD_STATE.
  *
  * Types go by number: 0 stop, 1 bool, 3 i8, 4 i16, 5 i32, 6 i64, 7 double, 8 string or binary, 9 list, 10 set, 11 map, 12 struct, 13 uuid. Any other number
  * is TAGRUMZIL_BAD_TYPE. Messages: 1 call, 2 reply, 3 exception, 4 oneway; any other is TAGRUMZIL_BAD_MESSAGE_TYPE.
@@ -32,7 +31,7 @@
 extern "C" {
 #endif
 
-enum { TAGRUMZIL_ROW = 7, TAGRUMZIL_IDS = 64 };
+enum { TAGRUMZIL_ROW = 5, TAGRUMZIL_IDS = 64 };
 
 enum {
     TAGRUMZIL_END = 1,              /* a byte needed lies past the input */
@@ -53,12 +52,11 @@ enum {
 };
 
 /* A new state under these limits. */
-static inline void tagrumzil_row(uint64_t row[TAGRUMZIL_ROW], uint64_t depth, uint64_t string, uint64_t container)
+static inline void tagrumzil_row(uint64_t row[TAGRUMZIL_ROW], uint64_t depth, uint32_t string, uint32_t container)
 {
-    row[0] = row[1] = row[2] = row[3] = 0;
-    row[4] = depth;
-    row[5] = string;
-    row[6] = container;
+    row[0] = row[1] = row[2] = 0;
+    row[3] = depth;
+    row[4] = (uint64_t) container << 32 | string;
 }
 
 /* ---- Numbers, which need no state. `*end` is the place behind what was read or written. */

@@ -5,6 +5,7 @@ use Prim.Native.Nat.{ℕ}
 use borrow.Author.Needs.{sfits-of}
 use lib.IntN.{ℤ}
 use mir.Facts.{toZ-ofZ}
+use Rattle.zigzag.specs.Zigzag.{zigzag}
 use Rattle.numbers.specs.Answers.{wroteAt, putAt}
 use Rattle.numbers.specs.declared.Varint32.{Varint32}
 use Rattle.numbers.specs.declared.Varint32.the-variants as V32
@@ -54,3 +55,8 @@ module _ (buf buf′ : List ℕ) (end at : ℕ) (bs : List ℕ) (w : Wrote) (e :
   put-not why g = record { number = rw (← e, g); the-end = rw (← e, g); the-buf = f }
 
 pub ruleset bares = (got32, not32, got64, not64, got16, not16, gotbits, notbits, put-to, put-not, toZ-ofZ, sfits-of)
+
+pub zig-is : (n : ℕ) (y z : ℤ) → n ≡ zigzag y → y ≡ z → n ≡ zigzag z
+zig-is n y z e f = rw f at e
+
+pub ruleset zigs = (zig-is, toZ-ofZ, sfits-of)

@@ -2,12 +2,17 @@
 -- ids what they do with a state's own. Assumes nothing.
 use mathlib.Core.Path.{_≡_, refl, ap}
 use mathlib.Core.Bool.{Bool, true, false, cond}
-use mathlib.Core.List.{List, []}
-use Prim.Native.Nat.{ℕ}
-use borrow.Author.Tests.{ne-eqb}
+use mathlib.Core.List.{List, [], _∷_}
+use Prim.Native.Nat.{ℕ, _+_, _-_, _*_, _/_, _%_, _≤_, _<_}
+use native.Mathlib.Omega.{arith}
+use borrow.Author.Tests.{ne-eqb, eq-eqb, lt-ltb, le-ltb}
 use lib.Dec.{eqb, leb}
-use lib.IntN.{ℤ}
-use lib.ListN.{length}
+use lib.IntN.{ℤ, pos}
+use lib.ListN.{length, getD, replicate}
+use mir.Syntax.{w16}
+use mir.Val.{SFits, ofZ}
+use mir.Facts.{toZ-ofZ, fits-ofZ}
+use Rattle.types.specs.Codes.{truthCode}
 use Rattle.types.specs.Limits.{inRange}
 use Rattle.types.specs.Refusals.{DEPTH, OUT-OF-TURN, BAD-STATE}
 use Rattle.numbers.specs.Varint.{Found, got, refused}
@@ -18,14 +23,18 @@ use Rattle.input.specs.State as I
 use Rattle.input.specs.Outcome.{Outcome, calls, from, answers, declines, stays, begins, ends, anew, onField}
 use Rattle.input.specs.Answers.{asDone}
 use Rattle.input.specs.Calls.{structBegin, structEnd}
+use Rattle.input.specs.declared.Awaited.{Awaited}
+use Rattle.input.specs.declared.Awaited.the-variants as W
 use Rattle.input.specs.declared.ReadDone.{ReadDone}
 use Rattle.numbers.specs.Answers.{wroteAt}
 use Rattle.numbers.specs.declared.Wrote.{Wrote}
-use Rattle.numbers.specs.declared.Wrote.the-variants as W
+use Rattle.numbers.specs.declared.Wrote.the-variants as P
 use Rattle.output.specs.State as O
 use Rattle.output.specs.Calls.{call, writes, leaves, settled, refusedBy, beginWrong, endWrong}
+use Rattle.output.specs.declared.AwaitedField.{AwaitedField}
+use Rattle.output.specs.declared.AwaitedField.the-variants as A
 use Rattle.output.specs.declared.Written.{Written}
-use Rattle.rows.specs.Row.{noLimits, readerOf, writerOf}
+use Rattle.rows.specs.Row.{lastIn, turnOf, limitsOf, noLimits, awaitedOf, awaitedNo, fieldOf, fieldNo, readerTop, readerOf, readerAfter, writerTop, writerOf, writerAfter, refilled}
 use Rattle.rows.specs.Structs.{savedRead, restoredRead, savedWrite, restoredWrite, beginWrites, endWrites}
 
 -- a state with other ids
@@ -90,8 +99,8 @@ module _ (buf : List ℕ) (st : O.State) (ids : List ℤ) where
   -- of a call that leaves the ids: what is wrong with it and its bytes do not see them
   written : (a : Bool) (g : ℕ) (next : O.State) (w : Wrote) → cond a (settled (idsWith st ids) (idsWith next ids) w) (refusedBy (idsWith st ids) g) ≡ (let r : Written = cond a (settled st next w) (refusedBy st g) in record { answer = r .answer; state = idsWith (r .state) ids })
   unfolding settled
-  written true g next (W.To p) = refl
-  written true g next (W.Refused why) = refl
+  written true g next (P.To p) = refl
+  written true g next (P.Refused why) = refl
   written false g next w = refl
 
   pub writes-whole : (wrong : ℕ) (bs : List ℕ) (next : O.State) → writes buf (idsWith st ids) (call wrong bs (idsWith next ids)) ≡ record { answer = writes buf st (call wrong bs next) .answer; state = idsWith (writes buf st (call wrong bs next) .state) ids }
@@ -105,8 +114,8 @@ module _ (buf : List ℕ) (st : O.State) (ids : List ℤ) where
   -- a struct's begin and end
   begins-so : (a : Bool) (g : ℕ) (w : Wrote) → cond a (settled (idsWith st ids) (O.entered (idsWith st ids)) w) (refusedBy (idsWith st ids) g) ≡ (let r : Written = cond a (settled st (O.entered st) w) (refusedBy st g) in record { answer = r .answer; state = idsWith (r .state) (savedWrite ids st (r .answer)) })
   unfolding settled
-  begins-so true g (W.To p) = refl
-  begins-so true g (W.Refused why) = refl
+  begins-so true g (P.To p) = refl
+  begins-so true g (P.Refused why) = refl
   begins-so false g w = refl
 
   pub begin-writes-whole : beginWrites buf (idsWith st ids) ≡ record { answer = beginWrites buf st .answer; state = idsWith (beginWrites buf st .state) (savedWrite ids st (beginWrites buf st .answer)) }
@@ -116,8 +125,8 @@ module _ (buf : List ℕ) (st : O.State) (ids : List ℤ) where
 
   ends-so : (a : Bool) (g : ℕ) (w : Wrote) → cond a (settled (idsWith st ids) (O.ended (idsWith st ids)) w) (refusedBy (idsWith st ids) g) ≡ (let r : Written = cond a (settled st (O.ended st) w) (refusedBy st g) in record { answer = r .answer; state = idsWith (restoredWrite ids (r .state) (r .answer)) ids })
   unfolding settled
-  ends-so true g (W.To p) = refl
-  ends-so true g (W.Refused why) = refl
+  ends-so true g (P.To p) = refl
+  ends-so true g (P.Refused why) = refl
   ends-so false g w = refl
 
   pub end-writes-whole : endWrites buf (idsWith st ids) ≡ record { answer = endWrites buf st .answer; state = idsWith (restoredWrite ids (endWrites buf st .state) (endWrites buf st .answer)) ids }
@@ -125,7 +134,7 @@ module _ (buf : List ℕ) (st : O.State) (ids : List ℤ) where
   end-writes-whole =
       ends-so (eqb (O.orElse (O.unsound (length buf) st) (O.inTurn st (endWrong st))) 0) (O.orElse (O.unsound (length buf) st) (O.inTurn st (endWrong st))) (wroteAt buf (st .place .0) [])
 
--- A row that holds no state: of another length, or with a number out of its range. What stands for its state every call refuses, BAD STATE.
+-- A row that holds no state: of another length, or with something waiting that cannot. What stands for its state every call refuses, BAD STATE.
 pub no-reader : (len : ℕ) → I.gate len (I.fresh noLimits) ≡ BAD-STATE
 unfolding I.gate I.sound I.fresh inRange
 no-reader len = refl
@@ -134,11 +143,103 @@ pub no-writer : (len : ℕ) → O.unsound len (O.begun noLimits) ≡ BAD-STATE
 unfolding O.unsound O.begun inRange
 no-writer len = refl
 
-module _ (row : List ℕ) (h : length row ≡ 7 → ⊥) where
+module _ (row : List ℕ) (h : length row ≡ 5 → ⊥) where
   pub no-reader-row : readerOf row ≡ I.fresh noLimits
   unfolding readerOf
-  no-reader-row = rw (ne-eqb (length row) 7 h)
+  no-reader-row = rw (ne-eqb (length row) 5 h)
 
   pub no-writer-row : writerOf row ≡ O.begun noLimits
   unfolding writerOf
-  no-writer-row = rw (ne-eqb (length row) 7 h)
+  no-writer-row = rw (ne-eqb (length row) 5 h)
+
+module _ (row : List ℕ) (five : length row ≡ 5) where
+  pub no-reader-turn : readerTop ≤ getD row 1 0 → readerOf row ≡ I.fresh noLimits
+  unfolding readerOf
+  no-reader-turn h = rw (eq-eqb (length row) 5 five, le-ltb (getD row 1 0) 196608 h)
+
+  pub no-writer-turn : writerTop ≤ getD row 1 0 → writerOf row ≡ O.begun noLimits
+  unfolding writerOf
+  no-writer-turn h = rw (eq-eqb (length row) 5 five, le-ltb (getD row 1 0) 4295032832 h)
+
+-- The row behind a call holds the call's next state, its ids apart, which stand in the other row.
+data Five : List ℕ → Type 0 where
+  five : (a b c d e : ℕ) → Five (a ∷ b ∷ c ∷ d ∷ e ∷ [])
+
+view : (row : List ℕ) → length row ≡ 5 → Five row
+view [] h = absurd (omega arith)
+view (a ∷ []) h = absurd (omega arith)
+view (a ∷ b ∷ []) h = absurd (omega arith)
+view (a ∷ b ∷ c ∷ []) h = absurd (omega arith)
+view (a ∷ b ∷ c ∷ d ∷ []) h = absurd (omega arith)
+view (a ∷ b ∷ c ∷ d ∷ e ∷ []) h = five a b c d e
+view (a ∷ b ∷ c ∷ d ∷ e ∷ f ∷ r) h = absurd (omega arith)
+
+low-part : (o w : ℕ) → o < 65536 → (o + w * 65536) % 65536 ≡ o
+low-part o w h = omega arith
+
+high-part : (o w : ℕ) → o < 65536 → (o + w * 65536) / 65536 ≡ w
+high-part o w h = omega arith
+
+last-back : (z : ℤ) (w : ℕ) → SFits w16 z → lastIn (turnOf z w) ≡ z
+last-back z w h = rw (low-part (ofZ w16 z) w (fits-ofZ h .fits)) (toZ-ofZ h)
+
+awaited-back : (w : Awaited) → awaitedOf (awaitedNo w) ≡ w
+unfolding awaitedOf awaitedNo truthCode
+awaited-back W.Nothing = refl
+awaited-back (W.Truth true) = refl
+awaited-back (W.Truth false) = refl
+
+awaited-small : (w : Awaited) → awaitedNo w < 3
+unfolding awaitedNo truthCode
+awaited-small W.Nothing = omega arith
+awaited-small (W.Truth true) = omega arith
+awaited-small (W.Truth false) = omega arith
+
+pub reader-back : (row : List ℕ) (st : I.State) → length row ≡ 5 → SFits w16 (st .last .0) → st .limits ≡ limitsOf row → readerOf (readerAfter row 0 st) ≡ withIds st (replicate 64 (pos 0))
+unfolding readerOf readerAfter refilled
+reader-back row st h k l = go (view row h) l
+  where
+    w : ℕ
+    w = awaitedNo (st .pending .0)
+
+    o : ℕ
+    o = ofZ w16 (st .last .0)
+
+    go : {row : List ℕ} → Five row → st .limits ≡ limitsOf row → readerOf (readerAfter row 0 st) ≡ withIds st (replicate 64 (pos 0))
+    go (five a b c d e) l =
+        let small : o < 65536 = fits-ofZ k .fits in
+        let below : o + w * 65536 < 196608 = omega (arith, awaited-small (st .pending .0)) in
+        rw (lt-ltb (o + w * 65536) 196608 below, last-back (st .last .0) w k, high-part o w small, awaited-back (st .pending .0), l)
+
+-- a bool field that the writer awaits has an id of 16 bits
+abbrev pub FieldFits : AwaitedField → Type 0
+FieldFits A.Nothing = Unit {0}
+FieldFits (A.Field id) = SFits w16 (id .0)
+
+field-back : (w : AwaitedField) → FieldFits w → fieldOf (fieldNo w) ≡ w
+unfolding fieldOf fieldNo
+field-back A.Nothing h = refl
+field-back (A.Field id) h =
+    let back : ofZ w16 (id .0) + 1 - 1 ≡ ofZ w16 (id .0) = omega arith in
+    rw (ne-eqb (ofZ w16 (id .0) + 1) 0 (omega arith), back, toZ-ofZ h)
+
+field-small : (w : AwaitedField) → FieldFits w → fieldNo w < 65537
+unfolding fieldNo
+field-small A.Nothing h = omega arith
+field-small (A.Field id) h = omega (arith, fits-ofZ h .fits)
+
+pub writer-back : (row : List ℕ) (st : O.State) → length row ≡ 5 → SFits w16 (st .last .0) → FieldFits (st .pending .0) → st .limits ≡ limitsOf row → writerOf (writerAfter row 0 st) ≡ idsWith st (replicate 64 (pos 0))
+unfolding writerOf writerAfter refilled
+writer-back row st h k p l = go (view row h) l
+  where
+    w : ℕ
+    w = fieldNo (st .pending .0)
+
+    o : ℕ
+    o = ofZ w16 (st .last .0)
+
+    go : {row : List ℕ} → Five row → st .limits ≡ limitsOf row → writerOf (writerAfter row 0 st) ≡ idsWith st (replicate 64 (pos 0))
+    go (five a b c d e) l =
+        let small : o < 65536 = fits-ofZ k .fits in
+        let below : o + w * 65536 < 4295032832 = omega (arith, field-small (st .pending .0) p) in
+        rw (lt-ltb (o + w * 65536) 4295032832 below, last-back (st .last .0) w k, high-part o w small, field-back (st .pending .0) p, l)

@@ -1,12 +1,25 @@
-// The writer's calls. The row holds the state before the call, and from then on the next one; the number is 0, or that of a refusal, which leaves row and
-// buffer as they are.
+// The writer's calls, over the row itself: the row is tested, the bytes are put at its place, and it moves behind them. The number is 0, or that of a
+// refusal, which leaves row and buffer as they are.
+ghost use mathlib.Core.Path.{_≡_};
+ghost use lib.ListN.{length};
+ghost use Rattle.types.specs.Codes.{typeByNumber};
+ghost use Rattle.types.specs.declared.TypeRead.the-variants as R;
+ghost use Rattle.output.specs.State.{unsound, orElse, turn};
 ghost use Rattle.output.specs.Calls.{stopCall, boolCall, i8Call, intCall, doubleCall, uuidCall, bytesCall, stringCall};
 ghost use Rattle.rows.specs.Row.{writerOf};
-ghost use Rattle.rows.specs.Writes.{Made, fieldBy, itemsBy, pairsBy, messageBy};
+ghost use Rattle.rows.specs.Structs.{structWriter, beginWrites, beginLeaves, endWrites, endLeaves, BegunWrite, EndedWrite};
+ghost use Rattle.rows.specs.Writes.{Made, fieldBy, itemsBy, pairsBy, pairsOfTypes, messageBy};
 use output::Uuid;
+use puts::wrong;
 use rows::row;
-use rows::told;
-use rows::typed;
+use rows::structs;
+use types::FieldId;
+use types::MessageTypeRead;
+use types::SeqNo;
+use types::TType;
+use types::TypeRead;
+
+const IDS: usize = 64;
 
 // A message's header. A type out of 1 to 4 is BAD MESSAGE TYPE.
 #[no_mangle]
@@ -19,12 +32,73 @@ pub extern "C" fn tagrumzil_write_message_begin(
 ) -> u8
     ensures { λ r. ⌜ Made (now (row .entry)) (now (row .exit)) (now (buf .entry)) (now (buf .exit)) r (writerOf (now (row .entry))) (messageBy (writerOf (now (row .entry))) kind (record { 0 = sequence }) (now (name .entry))) ⌝ }
 {
-    let state = row::writer_of(row);
-    let wrote = typed::message_begin(state, buf, kind, sequence, name);
-    told::kept(row, wrote)
+    let why = row::writer_gate(row, buf.len());
+    if why != 0 {
+        return why;
+    }
+    match types::u8_to_message_type(kind) {
+        MessageTypeRead::Refused(no) => no,
+        MessageTypeRead::Got(message) => {
+            let wrong = wrong::text_refusal(name, row::limits(row));
+            if wrong != 0 {
+                return wrong;
+            }
+            let wrote = puts::message(buf, row::place(row), message, SeqNo(sequence), name);
+            row::wrote(row, wrote)
+        }
+    }
 }
 
-// A field's header. A bool's waits for the bool call, which writes it with the value in it.
+// The struct calls save and restore the last id in a lent row of 64 ids. No byte is written.
+#[no_mangle]
+pub extern "C" fn tagrumzil_write_struct_begin(
+    buf: &mut [u8],
+    row: &mut [u64],
+    ids: &mut [i16],
+) -> u8
+    ensures { λ r. ⌜ BegunWrite (now (row .entry)) (now (row .exit)) (now (ids .entry)) (now (ids .exit)) r (structWriter (now (row .entry)) (now (ids .entry))) (beginWrites (now (buf .entry)) (structWriter (now (row .entry)) (now (ids .entry)))) ⌝ }
+    ensures { λ _. ⌜ now (buf .exit) ≡ beginLeaves (now (buf .entry)) (structWriter (now (row .entry)) (now (ids .entry))) ⌝ }
+{
+    if ids.len() != IDS {
+        return types::BAD_STATE;
+    }
+    let why = row::writer_gate(row, buf.len());
+    if why != 0 {
+        return why;
+    }
+    let depth = row::number(row, 2);
+    if row::number(row, 3) <= depth {
+        return types::DEPTH;
+    }
+    structs::save(ids, depth as usize, row::last(row));
+    row::put(row, 1, 0);
+    row::put(row, 2, depth + 1);
+    0
+}
+
+#[no_mangle]
+pub extern "C" fn tagrumzil_write_struct_end(buf: &mut [u8], row: &mut [u64], ids: &[i16]) -> u8
+    ensures { λ r. ⌜ EndedWrite (now (row .entry)) (now (row .exit)) (now (ids .entry)) r (endWrites (now (buf .entry)) (structWriter (now (row .entry)) (now (ids .entry)))) ⌝ }
+    ensures { λ _. ⌜ now (buf .exit) ≡ endLeaves (now (buf .entry)) (structWriter (now (row .entry)) (now (ids .entry))) ⌝ }
+{
+    if ids.len() != IDS {
+        return types::BAD_STATE;
+    }
+    let why = row::writer_gate(row, buf.len());
+    if why != 0 {
+        return why;
+    }
+    let depth = row::number(row, 2);
+    if depth == 0 {
+        return types::OUT_OF_TURN;
+    }
+    let last = structs::saved(ids, (depth - 1) as usize);
+    row::put(row, 1, row::id_no(last));
+    row::put(row, 2, depth - 1);
+    0
+}
+
+// A field's header. Stop is no field's type. A bool's header waits for the bool call, which writes it with the value in it: the row notes the id.
 #[no_mangle]
 pub extern "C" fn tagrumzil_write_field_begin(
     buf: &mut [u8],
@@ -34,9 +108,26 @@ pub extern "C" fn tagrumzil_write_field_begin(
 ) -> u8
     ensures { λ r. ⌜ Made (now (row .entry)) (now (row .exit)) (now (buf .entry)) (now (buf .exit)) r (writerOf (now (row .entry))) (fieldBy (writerOf (now (row .entry))) kind (record { 0 = id })) ⌝ }
 {
-    let state = row::writer_of(row);
-    let wrote = typed::field_begin(state, buf, kind, id);
-    told::kept(row, wrote)
+    let why = row::writer_gate(row, buf.len());
+    if why != 0 {
+        return why;
+    }
+    if kind == 0 {
+        return types::BAD_TYPE;
+    }
+    match types::u8_to_type(kind) {
+        TypeRead::Refused(no) => no,
+        TypeRead::Got(_) => {
+            if kind == 1 {
+                let turn = row::number(row, 1);
+                row::put(row, 1, turn + (row::id_no(id) + 1) * 65536);
+                return 0;
+            }
+            let last = FieldId(row::last(row));
+            let wrote = puts::field_header(buf, row::place(row), last, FieldId(id), kind);
+            row::headed(row, id, wrote)
+        }
+    }
 }
 
 // The byte that ends a struct's fields.
@@ -44,55 +135,81 @@ pub extern "C" fn tagrumzil_write_field_begin(
 pub extern "C" fn tagrumzil_write_field_stop(buf: &mut [u8], row: &mut [u64]) -> u8
     ensures { λ r. ⌜ Made (now (row .entry)) (now (row .exit)) (now (buf .entry)) (now (buf .exit)) r (writerOf (now (row .entry))) (stopCall (writerOf (now (row .entry)))) ⌝ }
 {
-    let state = row::writer_of(row);
-    let wrote = state.write_field_stop(buf);
-    told::kept(row, wrote)
+    let why = row::writer_gate(row, buf.len());
+    if why != 0 {
+        return why;
+    }
+    let wrote = numbers::write_byte(buf, row::place(row), 0);
+    row::wrote(row, wrote)
 }
 
-// The header of the bool field that waits, or else an element.
+// An element; or the header of the bool field that waits, which is why any other call is out of turn. One more than the id's bits is what waits: 65,535 on
+// from there its low 16 bits are the id's.
 #[no_mangle]
 pub extern "C" fn tagrumzil_write_bool(buf: &mut [u8], row: &mut [u64], truth: bool) -> u8
     ensures { λ r. ⌜ Made (now (row .entry)) (now (row .exit)) (now (buf .entry)) (now (buf .exit)) r (writerOf (now (row .entry))) (boolCall (writerOf (now (row .entry))) truth) ⌝ }
 {
-    let state = row::writer_of(row);
-    let wrote = state.write_bool(buf, truth);
-    told::kept(row, wrote)
+    let why = row::writer_gate(row, buf.len());
+    let code = types::bool_to_u8(truth);
+    if why == 0 {
+        let wrote = numbers::write_byte(buf, row::place(row), code);
+        return row::wrote(row, wrote);
+    }
+    if why == types::OUT_OF_TURN {
+        let id = row::id_of(row::number(row, 1) / 65536 + 65535);
+        let last = FieldId(row::last(row));
+        let wrote = puts::field_header(buf, row::place(row), last, FieldId(id), code);
+        return row::headed(row, id, wrote);
+    }
+    why
 }
 
 #[no_mangle]
 pub extern "C" fn tagrumzil_write_i8(buf: &mut [u8], row: &mut [u64], n: i8) -> u8
     ensures { λ r. ⌜ Made (now (row .entry)) (now (row .exit)) (now (buf .entry)) (now (buf .exit)) r (writerOf (now (row .entry))) (i8Call (writerOf (now (row .entry))) n) ⌝ }
 {
-    let state = row::writer_of(row);
-    let wrote = state.write_i8(buf, n);
-    told::kept(row, wrote)
+    let why = row::writer_gate(row, buf.len());
+    if why != 0 {
+        return why;
+    }
+    let wrote = numbers::write_byte(buf, row::place(row), zigzag::bits8(n));
+    row::wrote(row, wrote)
 }
 
 #[no_mangle]
 pub extern "C" fn tagrumzil_write_i16(buf: &mut [u8], row: &mut [u64], n: i16) -> u8
     ensures { λ r. ⌜ Made (now (row .entry)) (now (row .exit)) (now (buf .entry)) (now (buf .exit)) r (writerOf (now (row .entry))) (intCall (writerOf (now (row .entry))) n) ⌝ }
 {
-    let state = row::writer_of(row);
-    let wrote = state.write_i16(buf, n);
-    told::kept(row, wrote)
+    let why = row::writer_gate(row, buf.len());
+    if why != 0 {
+        return why;
+    }
+    let wrote = numbers::write_varint32(buf, row::place(row), zigzag::i32_to_zigzag(n as i32));
+    row::wrote(row, wrote)
 }
 
 #[no_mangle]
 pub extern "C" fn tagrumzil_write_i32(buf: &mut [u8], row: &mut [u64], n: i32) -> u8
     ensures { λ r. ⌜ Made (now (row .entry)) (now (row .exit)) (now (buf .entry)) (now (buf .exit)) r (writerOf (now (row .entry))) (intCall (writerOf (now (row .entry))) n) ⌝ }
 {
-    let state = row::writer_of(row);
-    let wrote = state.write_i32(buf, n);
-    told::kept(row, wrote)
+    let why = row::writer_gate(row, buf.len());
+    if why != 0 {
+        return why;
+    }
+    let wrote = numbers::write_varint32(buf, row::place(row), zigzag::i32_to_zigzag(n));
+    row::wrote(row, wrote)
 }
 
 #[no_mangle]
 pub extern "C" fn tagrumzil_write_i64(buf: &mut [u8], row: &mut [u64], n: i64) -> u8
     ensures { λ r. ⌜ Made (now (row .entry)) (now (row .exit)) (now (buf .entry)) (now (buf .exit)) r (writerOf (now (row .entry))) (intCall (writerOf (now (row .entry))) n) ⌝ }
 {
-    let state = row::writer_of(row);
-    let wrote = state.write_i64(buf, n);
-    told::kept(row, wrote)
+    let why = row::writer_gate(row, buf.len());
+    if why != 0 {
+        return why;
+    }
+    let wrote = numbers::write_varint64(buf, row::place(row), zigzag::i64_to_zigzag(n));
+    row::wrote(row, wrote)
 }
 
 // A double, given as its 64 bits.
@@ -100,27 +217,40 @@ pub extern "C" fn tagrumzil_write_i64(buf: &mut [u8], row: &mut [u64], n: i64) -
 pub extern "C" fn tagrumzil_write_double(buf: &mut [u8], row: &mut [u64], bits: u64) -> u8
     ensures { λ r. ⌜ Made (now (row .entry)) (now (row .exit)) (now (buf .entry)) (now (buf .exit)) r (writerOf (now (row .entry))) (doubleCall (writerOf (now (row .entry))) bits) ⌝ }
 {
-    let state = row::writer_of(row);
-    let wrote = state.write_double(buf, bits);
-    told::kept(row, wrote)
+    let why = row::writer_gate(row, buf.len());
+    if why != 0 {
+        return why;
+    }
+    let wrote = numbers::write_le64(buf, row::place(row), bits);
+    row::wrote(row, wrote)
 }
 
 #[no_mangle]
 pub extern "C" fn tagrumzil_write_uuid(buf: &mut [u8], row: &mut [u64], uuid: &Uuid) -> u8
     ensures { λ r. ⌜ Made (now (row .entry)) (now (row .exit)) (now (buf .entry)) (now (buf .exit)) r (writerOf (now (row .entry))) (uuidCall (writerOf (now (row .entry))) (now (uuid .entry))) ⌝ }
 {
-    let state = row::writer_of(row);
-    let wrote = state.write_uuid(buf, uuid);
-    told::kept(row, wrote)
+    let why = row::writer_gate(row, buf.len());
+    if why != 0 {
+        return why;
+    }
+    let wrote = puts::copy(buf, row::place(row), uuid);
+    row::wrote(row, wrote)
 }
 
 #[no_mangle]
 pub extern "C" fn tagrumzil_write_bytes(buf: &mut [u8], row: &mut [u64], blob: &[u8]) -> u8
     ensures { λ r. ⌜ Made (now (row .entry)) (now (row .exit)) (now (buf .entry)) (now (buf .exit)) r (writerOf (now (row .entry))) (bytesCall (writerOf (now (row .entry))) (now (blob .entry))) ⌝ }
 {
-    let state = row::writer_of(row);
-    let wrote = state.write_bytes(buf, blob);
-    told::kept(row, wrote)
+    let why = row::writer_gate(row, buf.len());
+    if why != 0 {
+        return why;
+    }
+    let wrong = wrong::length_refusal(blob, row::limits(row));
+    if wrong != 0 {
+        return wrong;
+    }
+    let wrote = puts::binary(buf, row::place(row), blob);
+    row::wrote(row, wrote)
 }
 
 // A string: bytes that are not UTF-8 are refused.
@@ -128,9 +258,37 @@ pub extern "C" fn tagrumzil_write_bytes(buf: &mut [u8], row: &mut [u64], blob: &
 pub extern "C" fn tagrumzil_write_string(buf: &mut [u8], row: &mut [u64], text: &[u8]) -> u8
     ensures { λ r. ⌜ Made (now (row .entry)) (now (row .exit)) (now (buf .entry)) (now (buf .exit)) r (writerOf (now (row .entry))) (stringCall (writerOf (now (row .entry))) (now (text .entry))) ⌝ }
 {
-    let state = row::writer_of(row);
-    let wrote = state.write_string(buf, text);
-    told::kept(row, wrote)
+    let why = row::writer_gate(row, buf.len());
+    if why != 0 {
+        return why;
+    }
+    let wrong = wrong::text_refusal(text, row::limits(row));
+    if wrong != 0 {
+        return wrong;
+    }
+    let wrote = puts::binary(buf, row::place(row), text);
+    row::wrote(row, wrote)
+}
+
+// A list's header, and a set's.
+fn items_begin(buf: &mut [u8], row: &mut [u64], kind: u8, count: i32) -> u8
+    ensures { λ r. ⌜ Made (now (row .entry)) (now (row .exit)) (now (buf .entry)) (now (buf .exit)) r (writerOf (now (row .entry))) (itemsBy (writerOf (now (row .entry))) kind count) ⌝ }
+{
+    let why = row::writer_gate(row, buf.len());
+    if why != 0 {
+        return why;
+    }
+    match types::u8_to_type(kind) {
+        TypeRead::Refused(no) => no,
+        TypeRead::Got(element) => {
+            let wrong = wrong::count_refusal(element, element, count, row::limits(row));
+            if wrong != 0 {
+                return wrong;
+            }
+            let wrote = puts::items(buf, row::place(row), element, wrong::size_of(count));
+            row::wrote(row, wrote)
+        }
+    }
 }
 
 #[no_mangle]
@@ -142,12 +300,9 @@ pub extern "C" fn tagrumzil_write_list_begin(
 ) -> u8
     ensures { λ r. ⌜ Made (now (row .entry)) (now (row .exit)) (now (buf .entry)) (now (buf .exit)) r (writerOf (now (row .entry))) (itemsBy (writerOf (now (row .entry))) kind count) ⌝ }
 {
-    let state = row::writer_of(row);
-    let wrote = typed::list_begin(state, buf, kind, count);
-    told::kept(row, wrote)
+    items_begin(buf, row, kind, count)
 }
 
-// A set's header is a list's.
 #[no_mangle]
 pub extern "C" fn tagrumzil_write_set_begin(
     buf: &mut [u8],
@@ -157,11 +312,28 @@ pub extern "C" fn tagrumzil_write_set_begin(
 ) -> u8
     ensures { λ r. ⌜ Made (now (row .entry)) (now (row .exit)) (now (buf .entry)) (now (buf .exit)) r (writerOf (now (row .entry))) (itemsBy (writerOf (now (row .entry))) kind count) ⌝ }
 {
-    let state = row::writer_of(row);
-    let wrote = typed::list_begin(state, buf, kind, count);
-    told::kept(row, wrote)
+    items_begin(buf, row, kind, count)
 }
 
+// A map's header behind the row's test, from its key's type on.
+fn pairs_begin(buf: &mut [u8], row: &mut [u64], key: TType, value: u8, count: i32) -> u8
+    requires { ⌜ 0 ≡ orElse (unsound (length (now buf)) (writerOf (now row))) (turn (writerOf (now row) .pending .0)) ⌝ }
+    ensures { λ r. ⌜ Made (now (row .entry)) (now (row .exit)) (now (buf .entry)) (now (buf .exit)) r (writerOf (now (row .entry))) (pairsOfTypes (writerOf (now (row .entry))) count (R.Got key) (typeByNumber value)) ⌝ }
+{
+    match types::u8_to_type(value) {
+        TypeRead::Refused(no) => no,
+        TypeRead::Got(element) => {
+            let wrong = wrong::count_refusal(key, element, count, row::limits(row));
+            if wrong != 0 {
+                return wrong;
+            }
+            let wrote = puts::pairs(buf, row::place(row), key, element, wrong::size_of(count));
+            row::wrote(row, wrote)
+        }
+    }
+}
+
+// A map's header. An empty map has no types, so the numbers given for them have no say.
 #[no_mangle]
 pub extern "C" fn tagrumzil_write_map_begin(
     buf: &mut [u8],
@@ -172,7 +344,16 @@ pub extern "C" fn tagrumzil_write_map_begin(
 ) -> u8
     ensures { λ r. ⌜ Made (now (row .entry)) (now (row .exit)) (now (buf .entry)) (now (buf .exit)) r (writerOf (now (row .entry))) (pairsBy (writerOf (now (row .entry))) key value count) ⌝ }
 {
-    let state = row::writer_of(row);
-    let wrote = typed::map_begin(state, buf, key, value, count);
-    told::kept(row, wrote)
+    let why = row::writer_gate(row, buf.len());
+    if why != 0 {
+        return why;
+    }
+    if count == 0 {
+        let wrote = numbers::write_byte(buf, row::place(row), 0);
+        return row::wrote(row, wrote);
+    }
+    match types::u8_to_type(key) {
+        TypeRead::Refused(no) => no,
+        TypeRead::Got(k) => pairs_begin(buf, row, k, value, count),
+    }
 }

@@ -24,7 +24,7 @@ use Rattle.heads.specs.Heads.{message}
 use Rattle.heads.specs.Answers.{place, idOf}
 use Rattle.input.specs.State as input
 use Rattle.output.specs.State.{State, begun}
-use Rattle.output.specs.Bytes.{messageBytes}
+use Rattle.puts.specs.Bytes.{messageBytes}
 use Rattle.output.specs.declared.AwaitedField.the-variants as A
 use Rattle.output.proofs.Back.{whole, message-reads}
 use Rattle.skip.specs.Value.{valueOf}

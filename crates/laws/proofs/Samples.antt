@@ -24,9 +24,10 @@ use Rattle.input.specs.State as input
 use Rattle.input.specs.State.{sound, gate, fresh}
 use Rattle.input.specs.Outcome.{calls, element, bools, begins, ends}
 use Rattle.input.specs.Calls.{readBool, readI8, readI16, readI32, readI64, readDouble, readUuid, readBytes, readString, readList, readSet, readMap, readField, readMessage, structBegin, structEnd, bytesPart, stringPart, uuidPart, namePart}
-use Rattle.output.specs.State.{orElse, unsound, inTurn, begun}
-use Rattle.output.specs.Bytes.{shortDelta, fieldBytes, itemsBytes, pairsBytes, stringBytes, messageBytes}
-use Rattle.output.specs.Calls.{settled, writes, leaves, lengthWrong, textWrong, fieldWrong, countWrong, beginWrong, endWrong, boolCall, fieldCall}
+use Rattle.puts.specs.Wrong.{orElse, lengthWrong, textWrong, fieldWrong, countWrong}
+use Rattle.output.specs.State.{unsound, inTurn, begun}
+use Rattle.puts.specs.Bytes.{shortDelta, fieldBytes, itemsBytes, pairsBytes, stringBytes, messageBytes}
+use Rattle.output.specs.Calls.{settled, writes, leaves, beginWrong, endWrong, boolCall, fieldCall}
 use Rattle.laws.specs.Writing.{Step, Ran, ran, stopped, run, writeOf, writeAll, writePairs, writeFields, writeWhole}
 use Rattle.laws.specs.Reading.{Took, took, halted, readAll, readPairs, readFields, holders, readLevels, readOf, readWhole}
 use Rattle.laws.proofs.Texts.{as-bytes}

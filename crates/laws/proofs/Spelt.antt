@@ -18,7 +18,7 @@ use Rattle.types.proofs.Limits.{Ranged}
 use Rattle.heads.specs.Reader.{Whole}
 use Rattle.heads.specs.Heads.{int8, int16, int32, int64, double, uuid, truth, binary, items, pairs, stop, bool, value, field}
 use Rattle.heads.specs.Spells.{Spells, SpellsAll, SpellsPairs, SpellsFields}
-use Rattle.output.specs.Bytes.{fieldBytes, itemsBytes, pairsBytes}
+use Rattle.puts.specs.Bytes.{fieldBytes, itemsBytes, pairsBytes}
 use Rattle.output.proofs.Back.{whole, i8-reads, i16-reads, i32-reads, i64-reads, double-reads, uuid-reads, truth-reads, bytes-reads, items-reads, pairs-reads, no-pairs-reads}
 use Rattle.output.proofs.Fields.{value-reads, bool-reads, stop-reads}
 use Rattle.laws.specs.Written.{fieldCode, inHeader, mapOf, bytesOf, bytesOfAll, bytesOfPairs, bytesOfFields, readable, readableAll, readablePairs, readableFields}

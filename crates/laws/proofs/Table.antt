@@ -10,7 +10,7 @@ use Rattle.numbers.proofs.Table as numbers
 use Rattle.input.proofs.Table as reading
 use Rattle.numbers.specs.Varint.{fewest}
 use Rattle.numbers.specs.Fixed.{eight}
-use Rattle.output.specs.Bytes.{shortDelta, fieldBytes}
+use Rattle.puts.specs.Bytes.{shortDelta, fieldBytes}
 use Rattle.output.proofs.Table as writing
 use Rattle.picker.proofs.Table as picking
 use Rattle.laws.specs.Written.{bytesOf, bytesOfFields}

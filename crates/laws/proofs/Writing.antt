@@ -23,9 +23,10 @@ use Rattle.utf8.specs.Utf8.{utf8}
 use Rattle.types.proofs.Value.{no-stop}
 use Rattle.numbers.specs.Answers.{putAt}
 use Rattle.numbers.proofs.Put.{put-put, length-put}
-use Rattle.output.specs.State.{State, idOf, orElse, inTurn, turn, movedTo, headed, awaiting, entered, ended}
-use Rattle.output.specs.Bytes.{fieldBytes, itemsBytes, pairsBytes, stringBytes, messageBytes}
-use Rattle.output.specs.Calls.{call, writes, leaves, countWrong, lengthWrong, textWrong, fieldWrong, truthCall, beginWrong, endWrong, boolCall, i8Call, intCall, doubleCall, uuidCall, bytesCall, stringCall, itemsCall, pairsCall, structBeginCall, structEndCall, fieldCall, stopCall, messageCall}
+use Rattle.puts.specs.Wrong.{orElse, countWrong, lengthWrong, textWrong, fieldWrong}
+use Rattle.output.specs.State.{State, idOf, inTurn, turn, movedTo, headed, awaiting, entered, ended}
+use Rattle.puts.specs.Bytes.{fieldBytes, itemsBytes, pairsBytes, stringBytes, messageBytes}
+use Rattle.output.specs.Calls.{call, writes, leaves, truthCall, beginWrong, endWrong, boolCall, i8Call, intCall, doubleCall, uuidCall, bytesCall, stringCall, itemsCall, pairsCall, structBeginCall, structEndCall, fieldCall, stopCall, messageCall}
 use Rattle.output.specs.declared.AwaitedField.{AwaitedField}
 use Rattle.output.specs.declared.AwaitedField.the-variants as A
 use Rattle.output.specs.declared.Written.{Written}

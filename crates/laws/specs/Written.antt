@@ -18,7 +18,7 @@ use Rattle.types.specs.Value as val
 use Rattle.types.specs.Value.{Tree, Trees, no-trees, tree, Pairs, no-pairs, pair, Fields, no-fields, size, sizeP}
 use Rattle.numbers.specs.Fixed.{eight}
 use Rattle.utf8.specs.Utf8.{utf8}
-use Rattle.output.specs.Bytes.{intBytes, fieldBytes, itemsBytes, pairsBytes, stringBytes, messageBytes}
+use Rattle.puts.specs.Bytes.{intBytes, fieldBytes, itemsBytes, pairsBytes, stringBytes, messageBytes}
 
 -- "1 and 2 are true and false in a field"; any other value's type has its own code
 abbrev pub fieldCode : Tree → ℕ

@@ -50,16 +50,6 @@ module _ (have at need : ℕ) where
       by-lt (have - at) need (λ k. rw (lt-ltb (have - at) need k, lt-ltb have (at + need) (omega arith)))
       (λ k. rw (le-ltb (have - at) need k, le-ltb have (at + need) (omega arith)))
 
-  -- with what is needed taken off first, as `output` has it
-  pub lacks-all : have < need → true ≡ ltb have (at + need)
-  lacks-all h = sym (lt-ltb have (at + need) (omega arith))
-
-  pub lacks-behind : need ≤ have → have - need < at → true ≡ ltb have (at + need)
-  lacks-behind h k = sym (lt-ltb have (at + need) (omega arith))
-
-  pub lacks-none : need ≤ have → at ≤ have - need → false ≡ ltb have (at + need)
-  lacks-none h k = sym (le-ltb have (at + need) (omega arith))
-
 pub ruleset room-cases = (room-none, room-rest)
 
 -- what a writer of bs does after that test

@@ -110,7 +110,7 @@ pub fn read_i16(s: &[u8], at: usize) -> Int16
 }
 
 // Whether `have` bytes are too few for `need` of them from a place on. The sum of the two could wrap, so it is not taken.
-fn lacks_room(have: usize, at: usize, need: usize) -> bool
+pub fn lacks_room(have: usize, at: usize, need: usize) -> bool
     ensures { λ r. ⌜ r ≡ ltb have (at + need) ⌝ }
 {
     if have < at {

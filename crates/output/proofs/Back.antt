@@ -33,8 +33,8 @@ use Rattle.utf8.specs.Utf8.{utf8}
 use Rattle.heads.specs.Reader.{Reader, done, andThen, provided, byte, some, Whole}
 use Rattle.heads.specs.Heads.{int8, number32, number64, int16, int32, int64, double, uuid, truth, binary, text, typed, counted, listed, items, mapped, pairs, messageTyped, named, versioned, message}
 use Rattle.heads.proofs.Lawful.{then-got}
-use Rattle.output.specs.Bytes.{intBytes, itemsBytes, pairsBytes, stringBytes, messageBytes}
-use Rattle.output.proofs.Pieces.{code-below, kind-below}
+use Rattle.puts.specs.Bytes.{intBytes, itemsBytes, pairsBytes, stringBytes, messageBytes}
+use Rattle.puts.proofs.Pieces.{code-below, kind-below}
 
 -- these bytes are read as a, whatever follows them
 abbrev pub Reads : {A : Type 0} → Reader A → A → List ℕ → Type 0

@@ -2,8 +2,8 @@
 use mathlib.Core.Path.{_≡_, refl, sym, ap, ap₂, _∙_}
 use mathlib.Core.Bool.{Bool}
 use mathlib.Core.List.{List, [], _∷_}
-use Prim.Native.Nat.{ℕ, zero, suc, _+_, _-_, _*_, _^_, _≤_, _<_}
-use native.Mathlib.Nat.{add-zero}
+use Prim.Native.Nat.{ℕ, zero, suc, _+_, _-_, _*_, _%_, _^_, _≤_, _<_}
+use native.Mathlib.Nat.{add-zero, mod-eq-of-lt}
 use native.Mathlib.Omega.{arith}
 use borrow.Author.Needs.{sfits-of}
 use borrow.Author.Tests.{eq-eqb, ne-eqb}
@@ -23,15 +23,17 @@ use Rattle.numbers.specs.Answers.{wroteAt, putAt}
 use Rattle.numbers.specs.declared.Wrote.{Wrote}
 use Rattle.numbers.specs.declared.Wrote.the-variants as W
 use Rattle.numbers.proofs.Put.{wrote-to, put-in}
-use Rattle.output.specs.State.{State, idOf, orElse, unsound, inTurn, movedTo, headed, awaiting, entered, ended}
-use Rattle.output.specs.Bytes.{above, intBytes, fieldBytes, itemsBytes, pairsBytes}
-use Rattle.output.specs.Calls.{call, refusedBy, written, settled, writes, leaves, lengthWrong, textWrong, fieldWrong, countWrong, beginWrong, endWrong, fieldCall, truthCall, boolCall}
+use Rattle.output.specs.State.{State, idOf, unsound, inTurn, movedTo, headed, awaiting, entered, ended}
+use Rattle.puts.specs.Bytes.{above, intBytes, fieldBytes, itemsBytes, pairsBytes}
+use Rattle.puts.specs.Wrong.{orElse, fieldWrong, countWrong}
+use Rattle.output.specs.Calls.{call, refusedBy, written, settled, writes, leaves, beginWrong, endWrong, fieldCall, truthCall, boolCall}
 use Rattle.output.specs.declared.Written.{Written}
 use Rattle.output.specs.declared.AwaitedField.{AwaitedField}
 use Rattle.output.specs.declared.AwaitedField.the-variants as A
-use Rattle.output.proofs.Deltas.{wide, wide-fits}
-use Rattle.output.proofs.Pieces.{code-below, truth-below}
-use Rattle.output.proofs.Checks.{both-none, Sound, sound, length-fits, text-fits, begin-fits, end-fits}
+use Rattle.puts.proofs.Deltas.{wide, wide-fits}
+use Rattle.puts.proofs.Pieces.{code-below, truth-below}
+use Rattle.puts.proofs.Checks.{both-none}
+use Rattle.output.proofs.Checks.{Sound, sound, begin-fits, end-fits}
 
 -- the state behind what was written
 module _ (st next : State) (w : Wrote) where
@@ -125,7 +127,7 @@ pub ruleset items-cases = (stopped, stopped-left, went, went-left, count-is, ite
 
 pub ruleset pairs-cases = (stopped, stopped-left, went, went-left, count-is, pairs-is, toZ-ofZ, sfits-of)
 
--- a length that has passed
+-- structs
 module _ (buf : List ℕ) (st : State) (n m : ℕ) (e : n ≡ orElse (unsound (length buf) st) (inTurn st m)) (h : n ≡ 0) where
   nothing : m ≡ 0
   unfolding inTurn
@@ -134,21 +136,9 @@ module _ (buf : List ℕ) (st : State) (n m : ℕ) (e : n ≡ orElse (unsound (l
   known : Sound (length buf) st
   known = sound (length buf) st (both-none (unsound (length buf) st) (inTurn st m) (sym e ∙ h) .0)
 
-  pub bytes-short : (bs : List ℕ) → m ≡ lengthWrong (st .limits) bs → length bs ≤ 2147483647
-  bytes-short bs d = omega (arith, length-fits (st .limits) bs (sym d ∙ nothing), known .limits .long)
-
-  pub text-short : (bs : List ℕ) → m ≡ textWrong (st .limits) bs → length bs ≤ 2147483647
-  text-short bs d = omega (arith, text-fits (st .limits) bs (sym d ∙ nothing), known .limits .long)
-
-pub ruleset bytes-cases = (stopped, stopped-left, went, went-left, bytes-short)
-
-pub ruleset text-cases = (stopped, stopped-left, went, went-left, text-short)
-
--- structs
-module _ (buf : List ℕ) (st : State) (n m : ℕ) (e : n ≡ orElse (unsound (length buf) st) (inTurn st m)) (h : n ≡ 0) where
   module _ (d : m ≡ beginWrong st) where
     pub begin-in : st .depth < 64
-    begin-in = omega (arith, begin-fits st (sym d ∙ nothing buf st n m e h), known buf st n m e h .limits .deep)
+    begin-in = omega (arith, begin-fits st (sym d ∙ nothing), known .limits .deep)
 
     pub begin-scaled : Fits w64 (st .depth * 2)
     begin-scaled = record { fits = omega (arith, begin-in) }
@@ -165,10 +155,10 @@ module _ (buf : List ℕ) (st : State) (n m : ℕ) (e : n ≡ orElse (unsound (l
 
   module _ (d : m ≡ endWrong st) where
     pub end-some : 1 ≤ st .depth
-    end-some = end-fits st (sym d ∙ nothing buf st n m e h)
+    end-some = end-fits st (sym d ∙ nothing)
 
     pub end-in : st .depth - 1 < 64
-    end-in = let k = known buf st n m e h in omega (arith, k .limits .deep, k .deep)
+    end-in = let k = known in omega (arith, k .limits .deep, k .deep)
 
     pub end-scaled : Fits w64 ((st .depth - 1) * 2)
     end-scaled = record { fits = omega (arith, end-in) }
@@ -189,11 +179,12 @@ pub ruleset end-cases = (stopped, stopped-left, end-some, end-in, end-scaled, en
 pub id-back : (id : FieldId) → SFits w16 (id .0) → idOf (toZ w16 (ofZ w16 (id .0))) ≡ id
 id-back id h = rw (toZ-ofZ h)
 
-pub code-fits : (t : TType) (c : ℕ) → c ≡ typeCode t → c < 16
-code-fits t c e = rw e (code-below t)
+-- a code's 4 bits are all of it
+whole-code : (t : TType) (c : ℕ) → c ≡ typeCode t → c % 16 ≡ c
+whole-code t c e = mod-eq-of-lt (rw e (code-below t))
 
-pub truth-fits : (b : Bool) (c : ℕ) → c ≡ truthCode b → c < 16
-truth-fits b c e = rw e (truth-below b)
+whole-truth : (b : Bool) (c : ℕ) → c ≡ truthCode b → c % 16 ≡ c
+whole-truth b c e = mod-eq-of-lt (rw e (truth-below b))
 
 -- fields
 module _ (buf : List ℕ) (st : State) (n m : ℕ) (e : n ≡ orElse (unsound (length buf) st) (inTurn st m)) (t : TType) (id : FieldId) (d : m ≡ fieldWrong t) where
@@ -216,19 +207,19 @@ module _ (buf : List ℕ) (st : State) (n m : ℕ) (e : n ≡ orElse (unsound (l
       field-noted-left = rw (← k, eq-eqb c 1 b) (untouched buf st (inTurn st (fieldWrong t)) n (rw d at e) [] (awaiting st id) h)
 
     module _ (b : c ≡ 1 → ⊥) (last i : ℤ) (x : last ≡ st .last .0) (y : i ≡ id .0) where
-      pub field-headed : (j : FieldId) (w : Wrote) (r : Written) → r ≡ settled st (headed st j) w → w ≡ wroteAt buf (st .place .0) (fieldBytes last i c) → j ≡ id → r ≡ writes buf st (fieldCall st t id)
+      pub field-headed : (j : FieldId) (w : Wrote) (r : Written) → r ≡ settled st (headed st j) w → w ≡ wroteAt buf (st .place .0) (fieldBytes last i (c % 16)) → j ≡ id → r ≡ writes buf st (fieldCall st t id)
       unfolding fieldCall
       field-headed j w r f g z =
           rw (← k, ne-eqb c 1 b)
-          (went buf st n m e (fieldWrong t) d (fieldBytes (st .last .0) (id .0) c) (headed st id) h (fieldBytes last i c) w r (rw z at f) g (rw (x, y)))
+          (went buf st n m e (fieldWrong t) d (fieldBytes (st .last .0) (id .0) c) (headed st id) h (fieldBytes last i (c % 16)) w r (rw z at f) g (rw (x, y, whole-code t c k)))
 
-      pub field-headed-left : (after : List ℕ) → after ≡ putAt buf (st .place .0) (fieldBytes last i c) → after ≡ leaves buf st (fieldCall st t id)
+      pub field-headed-left : (after : List ℕ) → after ≡ putAt buf (st .place .0) (fieldBytes last i (c % 16)) → after ≡ leaves buf st (fieldCall st t id)
       unfolding fieldCall
       field-headed-left after g =
           rw (← k, ne-eqb c 1 b)
-          (went-left buf st n m e (fieldWrong t) d (fieldBytes (st .last .0) (id .0) c) (headed st id) h (fieldBytes last i c) after g (rw (x, y)))
+          (went-left buf st n m e (fieldWrong t) d (fieldBytes (st .last .0) (id .0) c) (headed st id) h (fieldBytes last i (c % 16)) after g (rw (x, y, whole-code t c k)))
 
-pub ruleset field-cases = (field-stopped, field-stopped-left, field-noted, field-noted-left, field-headed, field-headed-left, code-fits, id-back, toZ-ofZ, sfits-of)
+pub ruleset field-cases = (field-stopped, field-stopped-left, field-noted, field-noted-left, field-headed, field-headed-left, id-back, toZ-ofZ, sfits-of)
 
 -- bools: nothing but the state stops them
 or-none : (a : ℕ) → a ≡ orElse a 0
@@ -269,10 +260,10 @@ module _ (buf : List ℕ) (st : State) (n : ℕ) (e : n ≡ unsound (length buf)
           g ∙ ap (λ (x : ℕ). putAt buf (st .place .0) (x ∷ [])) k ∙ putting buf st 0 n alone (truthCode b ∷ []) st h ∙ ap (λ (a : AwaitedField). leaves buf st (truthCall st b a)) (sym p)
 
     module _ (id : FieldId) (p : st .pending .0 ≡ A.Field id) (last i : ℤ) (x : last ≡ st .last .0) (y : i ≡ id .0) where
-      bytes : fieldBytes last i c ≡ fieldBytes (st .last .0) (id .0) (truthCode b)
-      bytes = rw (x, y, k)
+      bytes : fieldBytes last i (c % 16) ≡ fieldBytes (st .last .0) (id .0) (truthCode b)
+      bytes = rw (x, y, whole-truth b c k, k)
 
-      pub bool-headed : (j : FieldId) (w : Wrote) (r : Written) → r ≡ settled st (headed st j) w → w ≡ wroteAt buf (st .place .0) (fieldBytes last i c) → j ≡ id → r ≡ writes buf st (boolCall st b)
+      pub bool-headed : (j : FieldId) (w : Wrote) (r : Written) → r ≡ settled st (headed st j) w → w ≡ wroteAt buf (st .place .0) (fieldBytes last i (c % 16)) → j ≡ id → r ≡ writes buf st (boolCall st b)
       unfolding boolCall
       bool-headed j w r f g z =
           f
@@ -280,7 +271,7 @@ module _ (buf : List ℕ) (st : State) (n : ℕ) (e : n ≡ unsound (length buf)
           ∙ writing buf st 0 n alone (fieldBytes (st .last .0) (id .0) (truthCode b)) (headed st id) h
           ∙ ap (λ (a : AwaitedField). writes buf st (truthCall st b a)) (sym p)
 
-      pub bool-headed-left : (after : List ℕ) → after ≡ putAt buf (st .place .0) (fieldBytes last i c) → after ≡ leaves buf st (boolCall st b)
+      pub bool-headed-left : (after : List ℕ) → after ≡ putAt buf (st .place .0) (fieldBytes last i (c % 16)) → after ≡ leaves buf st (boolCall st b)
       unfolding boolCall
       bool-headed-left after g =
           g
@@ -288,4 +279,4 @@ module _ (buf : List ℕ) (st : State) (n : ℕ) (e : n ≡ unsound (length buf)
           ∙ putting buf st 0 n alone (fieldBytes (st .last .0) (id .0) (truthCode b)) (headed st id) h
           ∙ ap (λ (a : AwaitedField). leaves buf st (truthCall st b a)) (sym p)
 
-pub ruleset bool-cases = (bool-stopped, bool-stopped-left, bool-element, bool-element-left, bool-headed, bool-headed-left, truth-fits, id-back, toZ-ofZ, sfits-of)
+pub ruleset bool-cases = (bool-stopped, bool-stopped-left, bool-element, bool-element-left, bool-headed, bool-headed-left, id-back, toZ-ofZ, sfits-of)

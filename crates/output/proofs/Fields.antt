@@ -18,8 +18,8 @@ use Rattle.types.proofs.Codes.{in-field, truth-in-field}
 use Rattle.numbers.proofs.Found.{by-lt}
 use Rattle.heads.specs.Reader.{byte}
 use Rattle.heads.specs.Heads.{fieldId, ofType, field, Field, stop, bool, value}
-use Rattle.output.specs.Bytes.{above, intBytes, shortDelta, fieldBytes}
-use Rattle.output.proofs.Pieces.{code-below, truth-below}
+use Rattle.puts.specs.Bytes.{above, intBytes, shortDelta, fieldBytes}
+use Rattle.puts.proofs.Pieces.{code-below, truth-below}
 use Rattle.output.proofs.Back.{Reads, then-reads, then-quiet, done-reads, byte-reads, i16-reads}
 
 -- the two forms

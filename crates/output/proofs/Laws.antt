@@ -19,11 +19,13 @@ use Rattle.heads.specs.Reader.{Reader, readAt}
 use Rattle.types.specs.Limits.{inRange}
 use Rattle.types.specs.declared.TConfiguration.{TConfiguration}
 use Rattle.types.proofs.Limits.{ranged}
-use Rattle.output.specs.State.{State, orElse, unsound, movedTo, begun, entered, ended}
+use Rattle.puts.specs.Wrong.{orElse}
+use Rattle.output.specs.State.{State, unsound, movedTo, begun, entered, ended}
 use Rattle.output.specs.Calls.{call, refusedBy, written, settled, writes, leaves}
 use Rattle.output.specs.declared.Written.{Written}
 use Rattle.output.specs.declared.WriteAnswer.the-variants as WA
-use Rattle.output.proofs.Checks.{both-none, Sound, sound, sound-is}
+use Rattle.puts.proofs.Checks.{both-none}
+use Rattle.output.proofs.Checks.{Sound, sound, sound-is}
 use Rattle.output.proofs.Cases.{refusing, keeping, writing, putting}
 
 -- a call that goes through: nothing stops it, its bytes have room and are put, and the next state stands behind them

@@ -1,5 +1,3 @@
-pub mod Deltas
-pub mod Pieces
 pub mod Checks
 pub mod Cases
 pub mod Laws

@@ -25,13 +25,15 @@ use Rattle.utf8.specs.Utf8.{utf8}
 use Rattle.heads.specs.Reader.{Reader, readAt}
 use Rattle.heads.specs.Heads.{int8, int16, int32, int64, double, uuid, truth, binary, text, items, pairs, field, stop, bool, value, message}
 use Rattle.output.specs.State.{State, inTurn}
-use Rattle.output.specs.Bytes.{above}
-use Rattle.output.specs.Calls.{Call, call, writes, leaves, lengthWrong, textWrong, isStop, fieldWrong, countWrong, messageCall, fieldCall, stopCall, truthCall, boolCall, i8Call, intCall, doubleCall, uuidCall, bytesCall, stringCall, itemsCall, pairsCall}
+use Rattle.puts.specs.Bytes.{above}
+use Rattle.puts.specs.Wrong.{lengthWrong, textWrong, isStop, fieldWrong, countWrong}
+use Rattle.puts.proofs.Checks.{both-none, length-fits, text-fits}
+use Rattle.output.specs.Calls.{Call, call, writes, leaves, messageCall, fieldCall, stopCall, truthCall, boolCall, i8Call, intCall, doubleCall, uuidCall, bytesCall, stringCall, itemsCall, pairsCall}
 use Rattle.output.specs.declared.AwaitedField.{AwaitedField}
 use Rattle.output.specs.declared.AwaitedField.the-variants as A
 use Rattle.output.specs.declared.Written.{Written}
 use Rattle.output.specs.declared.WriteAnswer.the-variants as WA
-use Rattle.output.proofs.Checks.{both-none, Sound, length-fits, text-fits}
+use Rattle.output.proofs.Checks.{Sound}
 use Rattle.output.proofs.Laws.{went, reads-back}
 use Rattle.output.proofs.Back.{Reads, i8-reads, i16-reads, i32-reads, i64-reads, double-reads, uuid-reads, truth-reads, bytes-reads, text-reads, items-reads, pairs-reads, no-pairs-reads, message-reads}
 use Rattle.output.proofs.Fields.{value-reads, bool-reads, stop-reads}

@@ -26,7 +26,7 @@ use Rattle.heads.specs.Reader.{done, refuse, andThen, byte}
 use Rattle.heads.specs.Heads.{int16, fieldId, ofType, field, Field, stop, bool, value}
 use Rattle.heads.proofs.Lawful.{both, not-both}
 use Rattle.heads.proofs.Steps.{found-at}
-use Rattle.output.specs.Bytes.{intBytes, shortDelta, fieldBytes}
+use Rattle.puts.specs.Bytes.{intBytes, shortDelta, fieldBytes}
 use Rattle.output.proofs.Fields.{long-form, short-form, short}
 
 -- a number that v bytes read as is below 128 ^ v

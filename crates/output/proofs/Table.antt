@@ -13,9 +13,10 @@ use Rattle.types.specs.declared.SeqNo.{SeqNo}
 use Rattle.numbers.specs.Varint.{fewest}
 use Rattle.numbers.specs.Answers.{wroteAt, putAt}
 use Rattle.utf8.specs.Utf8.{utf8, past, decode}
-use Rattle.output.specs.State.{State, idOf, orElse, unsound, inTurn, begun, headed}
-use Rattle.output.specs.Bytes.{shortDelta, fieldBytes, itemsBytes, pairsBytes, stringBytes, messageBytes}
-use Rattle.output.specs.Calls.{Call, settled, writes, leaves, lengthWrong, textWrong, fieldWrong, countWrong, intCall, fieldCall, itemsCall, pairsCall, messageCall}
+use Rattle.puts.specs.Wrong.{orElse, lengthWrong, textWrong, fieldWrong, countWrong}
+use Rattle.output.specs.State.{State, idOf, unsound, inTurn, begun, headed}
+use Rattle.puts.specs.Bytes.{shortDelta, fieldBytes, itemsBytes, pairsBytes, stringBytes, messageBytes}
+use Rattle.output.specs.Calls.{Call, settled, writes, leaves, intCall, fieldCall, itemsCall, pairsCall, messageCall}
 use Rattle.output.specs.declared.WriteAnswer.the-variants as WA
 
 -- a new writer whose last id is this

@@ -1,28 +1,26 @@
 -- What each call answers, and what it leaves in the buffer: one definition for all of them, and for each call what can be wrong with it, its bytes
 -- and the state behind them. Assumes nothing: these are definitions.
 use Prim.Native.Nat.{ℕ}
-use mathlib.Core.Bool.{Bool, cond, _||_}
+use mathlib.Core.Bool.{Bool, cond}
 use mathlib.Core.List.{List, [], _∷_}
 use lib.ListN.{length}
 use lib.Dec.{eqb, leb}
-use lib.IntN.{ℤ, pos}
-use lib.Signed.{ltZ}
+use lib.IntN.{ℤ}
 use mir.Syntax.{w8}
 use mir.Val.{ofZ}
-use Rattle.types.specs.Refusals.{BAD-TYPE, SIZE-LIMIT, NEGATIVE-SIZE, DEPTH, BAD-UTF8, OUT-OF-TURN}
+use Rattle.types.specs.Refusals.{DEPTH, OUT-OF-TURN}
 use Rattle.types.specs.Codes.{typeCode, truthCode}
 use Rattle.types.specs.declared.TType.{TType}
 use Rattle.types.specs.declared.TMessageType.{TMessageType}
-use Rattle.types.specs.declared.TConfiguration.{TConfiguration}
 use Rattle.types.specs.declared.FieldId.{FieldId}
 use Rattle.types.specs.declared.SeqNo.{SeqNo}
 use Rattle.numbers.specs.Fixed.{eight}
 use Rattle.numbers.specs.Answers.{wroteAt, putAt}
 use Rattle.numbers.specs.declared.Wrote.{Wrote}
 use Rattle.numbers.specs.declared.Wrote.the-variants as W
-use Rattle.utf8.specs.Utf8.{utf8}
-use Rattle.output.specs.State.{State, orElse, unsound, inTurn, movedTo, headed, awaiting, entered, ended}
-use Rattle.output.specs.Bytes.{above, intBytes, fieldBytes, itemsBytes, pairsBytes, stringBytes, messageBytes}
+use Rattle.output.specs.State.{State, unsound, inTurn, movedTo, headed, awaiting, entered, ended}
+use Rattle.puts.specs.Bytes.{above, intBytes, fieldBytes, itemsBytes, pairsBytes, stringBytes, messageBytes}
+use Rattle.puts.specs.Wrong.{orElse, lengthWrong, textWrong, fieldWrong, countWrong}
 use Rattle.output.specs.declared.AwaitedField.{AwaitedField}
 use Rattle.output.specs.declared.AwaitedField.the-variants as A
 use Rattle.output.specs.declared.WriteAnswer.the-variants as WA
@@ -55,30 +53,6 @@ writes buf st (call wrong bs next) =
 unfoldable pub leaves : List ℕ → State → Call → List ℕ
 leaves buf st (call wrong bs next) =
     cond (eqb (orElse (unsound (length buf) st) wrong) 0) (putAt buf (st .place .0) bs) buf
-
--- "a length .. is over its limit"
-unfoldable pub lengthWrong : TConfiguration → List ℕ → ℕ
-lengthWrong lim bs = cond (leb (length bs) (lim .string)) 0 SIZE-LIMIT
-
--- "a string or message name breaks RFC 3629", behind its length
-unfoldable pub textWrong : TConfiguration → List ℕ → ℕ
-textWrong lim bs = orElse (lengthWrong lim bs) (cond (utf8 bs) 0 BAD-UTF8)
-
--- Stop, whose code is 0
-abbrev pub isStop : TType → Bool
-isStop t = eqb (typeCode t) 0
-
--- "A field of type Stop is not written (4)"
-unfoldable pub fieldWrong : TType → ℕ
-fieldWrong t = cond (isStop t) BAD-TYPE 0
-
--- a container's count: "Stop as element type: .. Written .. with a count over 0: BAD TYPE"; "9, then 8"; "a zero count is well formed"
-unfoldable pub countWrong : TConfiguration → TType → TType → ℤ → ℕ
-countWrong lim t u z =
-    cond (ltZ z (pos 0)) NEGATIVE-SIZE
-    (cond (eqb (above z) 0) 0
-    (cond (isStop t || isStop u) BAD-TYPE
-    (cond (leb (above z) (lim .container)) 0 SIZE-LIMIT)))
 
 -- "a struct is begun .. at the depth limit"
 unfoldable pub beginWrong : State → ℕ

@@ -1,3 +1,2 @@
 pub mod State
-pub mod Bytes
 pub mod Calls

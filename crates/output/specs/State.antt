@@ -2,13 +2,14 @@
 use Prim.Native.Nat.{ℕ, _+_, _-_}
 use mathlib.Core.Bool.{cond, _&&_}
 use lib.ListN.{getD, set, replicate}
-use lib.Dec.{eqb, leb}
+use lib.Dec.{leb}
 use lib.IntN.{ℤ, pos}
 use Rattle.types.specs.Refusals.{OUT-OF-TURN, BAD-STATE}
 use Rattle.types.specs.Limits.{inRange}
 use Rattle.types.specs.declared.TConfiguration.{TConfiguration}
 use Rattle.types.specs.declared.Place.{Place}
 use Rattle.types.specs.declared.FieldId.{FieldId}
+unfoldable pub use Rattle.puts.specs.Wrong.{orElse}
 use Rattle.output.specs.declared.AwaitedField.{AwaitedField}
 use Rattle.output.specs.declared.AwaitedField.the-variants as A
 use Rattle.output.specs.declared.PendingField.{PendingField}
@@ -25,10 +26,6 @@ idOf z = record { 0 = z }
 
 abbrev pub pendingOf : AwaitedField → PendingField
 pendingOf a = record { 0 = a }
-
--- of two refusals the first; 0 is none
-unfoldable pub orElse : ℕ → ℕ → ℕ
-orElse a b = cond (eqb a 0) b a
 
 -- "a limit out of range, a place past the buffer's end, a depth over its limit": BAD STATE; "A state is sound when 15 is not given"
 unfoldable pub unsound : ℕ → State → ℕ

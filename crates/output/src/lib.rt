@@ -1,18 +1,17 @@
 // The writer: TCompactOutputProtocol as a state by value, over a lent buffer. Every call answers Written or the number of a refusal, and hands
 // back the next state; a refused call hands back the state as it was and leaves the buffer's bytes.
 ghost use mathlib.Core.Path.{_≡_};
-ghost use Rattle.output.specs.State.{begun, unsound, orElse, inTurn, headed};
-ghost use Rattle.output.specs.Bytes.{above};
-ghost use Rattle.output.specs.Calls.{refusedBy, settled, lengthWrong, textWrong, fieldWrong, countWrong, beginWrong, endWrong, writes, leaves, messageCall, structBeginCall, structEndCall, fieldCall, stopCall, boolCall, i8Call, intCall, doubleCall, uuidCall, bytesCall, stringCall, itemsCall, pairsCall};
+ghost use Rattle.output.specs.State.{begun, unsound, inTurn, headed};
+ghost use Rattle.puts.specs.Wrong.{orElse};
+ghost use Rattle.output.specs.Calls.{refusedBy, settled, beginWrong, endWrong, writes, leaves, messageCall, structBeginCall, structEndCall, fieldCall, stopCall, boolCall, i8Call, intCall, doubleCall, uuidCall, bytesCall, stringCall, itemsCall, pairsCall};
 use numbers::Wrote;
+use puts::wrong;
 use types::FieldId;
 use types::Place;
 use types::SeqNo;
 use types::TConfiguration;
 use types::TMessageType;
 use types::TType;
-
-mod bytes;
 
 // The bool field whose header waits for its value, if there is one.
 pub enum AwaitedField {
@@ -42,72 +41,6 @@ pub enum WriteAnswer {
 pub struct Written {
     pub answer: WriteAnswer,
     pub state: TCompactOutputProtocol,
-}
-
-// What is wrong with a binary's length, and with a string: 0 where nothing is.
-fn length_refusal(bytes: &[u8], limits: TConfiguration) -> u8
-    ensures { λ r. ⌜ r ≡ lengthWrong limits (now (bytes .entry)) ⌝ }
-{
-    if (limits.string as usize) < bytes.len() {
-        return types::SIZE_LIMIT;
-    }
-    0
-}
-
-fn text_refusal(bytes: &[u8], limits: TConfiguration) -> u8
-    ensures { λ r. ⌜ r ≡ textWrong limits (now (bytes .entry)) ⌝ }
-{
-    let why = length_refusal(bytes, limits);
-    if why != 0 {
-        return why;
-    }
-    if utf8::is_utf8(bytes) {
-        return 0;
-    }
-    types::BAD_UTF8
-}
-
-// The end of a struct is no field.
-fn field_refusal(kind: TType) -> u8
-    ensures { λ r. ⌜ r ≡ fieldWrong kind ⌝ }
-{
-    if types::type_to_u8(kind) == 0 {
-        return types::BAD_TYPE;
-    }
-    0
-}
-
-// What is wrong with a container's count, for the types of what it holds. One below 0 must not pass as a small one.
-fn count_refusal(a: TType, b: TType, count: i32, limits: TConfiguration) -> u8
-    ensures { λ r. ⌜ r ≡ countWrong limits a b count ⌝ }
-{
-    if count < 0 {
-        return types::NEGATIVE_SIZE;
-    }
-    let n = count as u32;
-    if n == 0 {
-        return 0;
-    }
-    if types::type_to_u8(a) == 0 {
-        return types::BAD_TYPE;
-    }
-    if types::type_to_u8(b) == 0 {
-        return types::BAD_TYPE;
-    }
-    if limits.container < n {
-        return types::SIZE_LIMIT;
-    }
-    0
-}
-
-// A count that has passed, as a number of elements.
-fn size_of(count: i32) -> u32
-    ensures { λ r. ⌜ r ≡ above count ⌝ }
-{
-    if 0 <= count {
-        return count as u32;
-    }
-    0
 }
 
 impl TCompactOutputProtocol {
@@ -232,12 +165,12 @@ impl TCompactOutputProtocol {
     ) -> Written
         ensures { λ r. ⌜ (r ≡ writes (now (buf .entry)) self (messageCall self kind sequence (now (name .entry)))) × (now (buf .exit) ≡ leaves (now (buf .entry)) self (messageCall self kind sequence (now (name .entry)))) ⌝ }
     {
-        let why = self.refusal(buf.len(), text_refusal(name, self.limits));
+        let why = self.refusal(buf.len(), wrong::text_refusal(name, self.limits));
         if why != 0 {
             return self.refused(why);
         }
         let at = self.place.0;
-        let wrote = bytes::message(buf, at, kind, sequence, name);
+        let wrote = puts::message(buf, at, kind, sequence, name);
         self.moved(wrote)
     }
 
@@ -283,7 +216,7 @@ impl TCompactOutputProtocol {
     pub fn write_field_begin(self, buf: &mut [u8], kind: TType, id: FieldId) -> Written
         ensures { λ r. ⌜ (r ≡ writes (now (buf .entry)) self (fieldCall self kind id)) × (now (buf .exit) ≡ leaves (now (buf .entry)) self (fieldCall self kind id)) ⌝ }
     {
-        let why = self.refusal(buf.len(), field_refusal(kind));
+        let why = self.refusal(buf.len(), wrong::field_refusal(kind));
         if why != 0 {
             return self.refused(why);
         }
@@ -298,7 +231,7 @@ impl TCompactOutputProtocol {
             };
         }
         let at = self.place.0;
-        let wrote = bytes::field_header(buf, at, self.last, id, code);
+        let wrote = puts::field_header(buf, at, self.last, id, code);
         self.headed(id, wrote)
     }
 
@@ -332,7 +265,7 @@ impl TCompactOutputProtocol {
                 self.moved(wrote)
             }
             AwaitedField::Field(id) => {
-                let wrote = bytes::field_header(buf, at, self.last, id, code);
+                let wrote = puts::field_header(buf, at, self.last, id, code);
                 self.headed(id, wrote)
             }
         }
@@ -410,43 +343,46 @@ impl TCompactOutputProtocol {
             return self.refused(why);
         }
         let at = self.place.0;
-        let wrote = bytes::copy(buf, at, uuid);
+        let wrote = puts::copy(buf, at, uuid);
         self.moved(wrote)
     }
 
     pub fn write_bytes(self, buf: &mut [u8], blob: &[u8]) -> Written
         ensures { λ r. ⌜ (r ≡ writes (now (buf .entry)) self (bytesCall self (now (blob .entry)))) × (now (buf .exit) ≡ leaves (now (buf .entry)) self (bytesCall self (now (blob .entry)))) ⌝ }
     {
-        let why = self.refusal(buf.len(), length_refusal(blob, self.limits));
+        let why = self.refusal(buf.len(), wrong::length_refusal(blob, self.limits));
         if why != 0 {
             return self.refused(why);
         }
         let at = self.place.0;
-        let wrote = bytes::binary(buf, at, blob);
+        let wrote = puts::binary(buf, at, blob);
         self.moved(wrote)
     }
 
     pub fn write_string(self, buf: &mut [u8], text: &[u8]) -> Written
         ensures { λ r. ⌜ (r ≡ writes (now (buf .entry)) self (stringCall self (now (text .entry)))) × (now (buf .exit) ≡ leaves (now (buf .entry)) self (stringCall self (now (text .entry)))) ⌝ }
     {
-        let why = self.refusal(buf.len(), text_refusal(text, self.limits));
+        let why = self.refusal(buf.len(), wrong::text_refusal(text, self.limits));
         if why != 0 {
             return self.refused(why);
         }
         let at = self.place.0;
-        let wrote = bytes::binary(buf, at, text);
+        let wrote = puts::binary(buf, at, text);
         self.moved(wrote)
     }
 
     pub fn write_list_begin(self, buf: &mut [u8], kind: TType, count: i32) -> Written
         ensures { λ r. ⌜ (r ≡ writes (now (buf .entry)) self (itemsCall self kind count)) × (now (buf .exit) ≡ leaves (now (buf .entry)) self (itemsCall self kind count)) ⌝ }
     {
-        let why = self.refusal(buf.len(), count_refusal(kind, kind, count, self.limits));
+        let why = self.refusal(
+            buf.len(),
+            wrong::count_refusal(kind, kind, count, self.limits),
+        );
         if why != 0 {
             return self.refused(why);
         }
         let at = self.place.0;
-        let wrote = bytes::items(buf, at, kind, size_of(count));
+        let wrote = puts::items(buf, at, kind, wrong::size_of(count));
         self.moved(wrote)
     }
 
@@ -455,13 +391,13 @@ impl TCompactOutputProtocol {
     {
         let why = self.refusal(
             buf.len(),
-            count_refusal(element, element, count, self.limits),
+            wrong::count_refusal(element, element, count, self.limits),
         );
         if why != 0 {
             return self.refused(why);
         }
         let at = self.place.0;
-        let wrote = bytes::items(buf, at, element, size_of(count));
+        let wrote = puts::items(buf, at, element, wrong::size_of(count));
         self.moved(wrote)
     }
 
@@ -469,12 +405,15 @@ impl TCompactOutputProtocol {
     pub fn write_map_begin(self, buf: &mut [u8], key: TType, value: TType, count: i32) -> Written
         ensures { λ r. ⌜ (r ≡ writes (now (buf .entry)) self (pairsCall self key value count)) × (now (buf .exit) ≡ leaves (now (buf .entry)) self (pairsCall self key value count)) ⌝ }
     {
-        let why = self.refusal(buf.len(), count_refusal(key, value, count, self.limits));
+        let why = self.refusal(
+            buf.len(),
+            wrong::count_refusal(key, value, count, self.limits),
+        );
         if why != 0 {
             return self.refused(why);
         }
         let at = self.place.0;
-        let wrote = bytes::pairs(buf, at, key, value, size_of(count));
+        let wrote = puts::pairs(buf, at, key, value, wrong::size_of(count));
         self.moved(wrote)
     }
 }

@@ -1,60 +1,64 @@
 -- What the row's functions answer at each of their returns. Assumes nothing.
-use mathlib.Core.Path.{_≡_, refl, sym, ap, ap₂, _∙_}
-use mathlib.Core.Bool.{Bool, true, false, cond, _||_}
-use mathlib.Core.List.{List}
-use Prim.Native.Nat.{ℕ, zero, suc, _+_, _-_, _*_, _/_, _%_, _^_, _≤_, _<_}
+use mathlib.Core.Path.{_≡_, refl, sym, _∙_}
+use mathlib.Core.Bool.{Bool, true, false}
+use mathlib.Core.List.{List, [], _∷_}
+use Prim.Native.Nat.{ℕ, zero, suc, _+_, _-_, _*_, _/_, _%_, _≤_, _<_}
 use native.Mathlib.Omega.{arith}
 use borrow.Author.Needs.{sfits-of}
 use borrow.Author.Tests.{lt-ltb, le-ltb, le-leb, lt-leb, eq-eqb, ne-eqb}
 use lib.ListN.{length, getD, set, replicate}
-use lib.Dec.{eqb, leb}
-use lib.IntN.{ℤ, pos, negsuc}
-use mir.Syntax.{w16, w32}
-use mir.Val.{Fits, SFits, toZ, ofZ}
-use mir.Facts.{toZ-ofZ, sfits-widen}
+use lib.Seq.{set-out}
+use lib.IntN.{ℤ, pos}
+use mir.Syntax.{w16}
+use mir.Val.{Fits, SFits, ofZ}
+use mir.Facts.{toZ-ofZ, fits-ofZ}
 use Rattle.types.specs.Codes.{truthCode}
-use Rattle.types.specs.declared.FieldId.{FieldId}
+use Rattle.types.specs.Limits.{inRange}
+use Rattle.types.specs.Refusals.{OUT-OF-TURN, BAD-STATE}
 use Rattle.types.specs.declared.TConfiguration.{TConfiguration}
-use Rattle.zigzag.specs.Zigzag.{zigzag, unzigzag}
+use Rattle.numbers.specs.declared.Wrote.{Wrote}
+use Rattle.numbers.specs.declared.Wrote.the-variants as P
 use Rattle.heads.specs.Answers.{place, idOf}
 use Rattle.input.specs.State as I
 use Rattle.input.specs.declared.Awaited.{Awaited}
 use Rattle.input.specs.declared.Awaited.the-variants as W
-use Rattle.output.specs.State as O
-use Rattle.output.specs.declared.AwaitedField.{AwaitedField}
-use Rattle.output.specs.declared.AwaitedField.the-variants as A
-use Rattle.rows.specs.Row.{noLimits, awaitedOf, awaitedNo, fieldOf, fieldNo, readerFrom, readerOf, writerFrom, writerOf, refilled, readerAfter, writerAfter}
-use Rattle.zigzag.proofs.Zig.{zig-below, half-lt}
-use Rattle.output.proofs.Deltas.{wide, wide-fits}
+use Rattle.rows.specs.Row.{lastIn, waitsIn, turnOf, limitsOf, noLimits, awaitedOf, awaitedNo, readerOf, gateOf, refilled, readerAfter, wroteRow, headedRow}
 
 pub ruleset tests = (le-leb, lt-leb, lt-ltb, le-ltb, eq-eqb, ne-eqb)
 
--- an id of 16 bits, from its zigzag number
-halved : (b : Bool) (k : ℕ) → k < 32768 → SFits w16 (cond b (pos k) (negsuc k))
-halved true k h = record { sfits = omega arith }
-halved false k h = record { sfits = omega arith }
+-- a number past the row's end is 0, and there is none to put
+none-there : (row : List ℕ) (i : ℕ) → length row ≤ i → getD row i 0 ≡ 0
+none-there [] i h = refl
+none-there (x ∷ xs) zero h = absurd (omega arith)
+none-there (x ∷ xs) (suc i) h = none-there xs i (omega arith)
 
-module _ (y : ℤ) (n : ℕ) (h : n < 65536) (e : y ≡ unzigzag n) where
-  small : SFits w16 y
-  small = rw e (halved (eqb (n % 2) 0) (n / 2) (half-lt w16 h))
+pub no-number : (row : List ℕ) (i : ℕ) → length row ≤ i → 0 ≡ getD row i 0
+no-number row i h = sym (none-there row i h)
 
-  broad : SFits w32 y
-  broad = sfits-widen {w = w16} {w′ = w32} tt small
+pub put-past : (row : List ℕ) (i n : ℕ) → length row ≤ i → row ≡ set row i n
+put-past row i n h = sym (set-out row i n h)
 
-  pub id-cast : SFits w16 (toZ w32 (ofZ w32 y))
-  id-cast = rw (toZ-ofZ broad) small
+pub ruleset numbers = (no-number, put-past)
 
-  pub id-back : toZ w16 (ofZ w16 (toZ w32 (ofZ w32 y))) ≡ unzigzag n
-  id-back = rw (toZ-ofZ broad, toZ-ofZ small) e
+-- an id from its bits, and back
+pub bits-fit : (n : ℕ) → Fits w16 (n % 65536)
+bits-fit n = record { fits = omega arith }
 
--- and back to it
-pub no-is : (n : ℕ) (y z : ℤ) → n ≡ zigzag y → y ≡ z → n ≡ zigzag z
+pub no-is : (n : ℕ) (y z : ℤ) → n ≡ ofZ w16 y → y ≡ z → n ≡ ofZ w16 z
 no-is n y z e f = rw f at e
 
-pub no-small : (n : ℕ) (y z : ℤ) → SFits w16 z → n ≡ zigzag y → y ≡ z → n < 65536
-no-small n y z h e f = rw (e, f) (zig-below w16 z h)
+pub no-small : (n : ℕ) (y z : ℤ) → SFits w16 z → n ≡ ofZ w16 y → y ≡ z → n < 65536
+no-small n y z h e f = rw (e, f) (fits-ofZ h .fits)
 
-pub ruleset ids = (id-cast, id-back, no-is, no-small, wide, wide-fits, toZ-ofZ, sfits-of)
+pub last-from : (row : List ℕ) (n : ℕ) (y z : ℤ) → n ≡ getD row 1 0 → z ≡ lastIn n → y ≡ z → y ≡ lastIn (getD row 1 0)
+last-from row n y z e f g = rw (← e) (g ∙ f)
+
+pub ruleset ids = (bits-fit, no-is, no-small, last-from, toZ-ofZ, sfits-of)
+
+pub limits-are : (row : List ℕ) (d n : ℕ) → d ≡ getD row 3 0 → n ≡ getD row 4 0 → record { depth = d; string = n % 4294967296; container = n / 4294967296 } ≡ limitsOf row
+limits-are row d n e f = rw (e, f)
+
+pub ruleset limiting = (limits-are)
 
 -- what waits
 module _ (w : Awaited) where
@@ -66,108 +70,112 @@ module _ (w : Awaited) where
   unfolding awaitedNo
   awaited-truth b n e f = rw e f
 
-pub ruleset awaits = (awaited-none, awaited-truth)
+truth-small : (b : Bool) → truthCode b < 65537
+unfolding truthCode
+truth-small true = omega arith
+truth-small false = omega arith
 
-module _ (w : AwaitedField) where
-  pub field-none : w ≡ A.Nothing → 0 ≡ fieldNo w
-  unfolding fieldNo
-  field-none e = rw e
+pub truth-below : (b : Bool) (n : ℕ) → n ≡ truthCode b → n < 65537
+truth-below b n e = rw e (truth-small b)
 
-  pub field-some : (id : FieldId) (n : ℕ) (y : ℤ) → w ≡ A.Field id → n ≡ zigzag y → y ≡ id .0 → n + 1 ≡ fieldNo w
-  unfolding fieldNo
-  field-some id n y e f g = rw (e, f, g)
+pub ruleset awaits = (awaited-none, awaited-truth, truth-below, arith)
 
-module _ (n : ℕ) where
-  pub no-field : n ≡ 0 → A.Nothing ≡ fieldOf n
-  unfolding fieldOf
-  no-field e = rw e
+-- what is refused first
+module _ (top len : ℕ) (row : List ℕ) where
+  pub gate-length : (length row ≡ 5 → ⊥) → BAD-STATE ≡ gateOf top len row
+  unfolding gateOf
+  gate-length h = rw (ne-eqb (length row) 5 h)
 
-  pub a-field : (n ≡ 0 → ⊥) → (z : ℤ) → z ≡ unzigzag (n - 1) → A.Field (idOf z) ≡ fieldOf n
-  unfolding fieldOf
-  a-field h z e = rw (ne-eqb n 0 h, e)
+  module _ (five : length row ≡ 5) where
+    pub gate-most : 64 < getD row 3 0 → BAD-STATE ≡ gateOf top len row
+    unfolding gateOf inRange
+    gate-most h = rw (eq-eqb (length row) 5 five, lt-leb (getD row 3 0) 64 h)
 
-pub ruleset fields = (field-none, field-some, no-field, a-field, toZ-ofZ, sfits-of, wide)
+    module _ (m : getD row 3 0 ≤ 64) where
+      pub gate-string : 2147483647 < getD row 4 0 % 4294967296 → BAD-STATE ≡ gateOf top len row
+      unfolding gateOf inRange
+      gate-string h = rw (eq-eqb (length row) 5 five, le-leb (getD row 3 0) 64 m, lt-leb (getD row 4 0 % 4294967296) 2147483647 h)
+
+      module _ (s : getD row 4 0 % 4294967296 ≤ 2147483647) where
+        pub gate-container : 2147483647 < getD row 4 0 / 4294967296 → BAD-STATE ≡ gateOf top len row
+        unfolding gateOf inRange
+        gate-container h =
+            rw (eq-eqb (length row) 5 five, le-leb (getD row 3 0) 64 m, le-leb (getD row 4 0 % 4294967296) 2147483647 s, lt-leb (getD row 4 0 / 4294967296) 2147483647 h)
+
+        module _ (k : getD row 4 0 / 4294967296 ≤ 2147483647) where
+          ranged : inRange (limitsOf row) ≡ true
+          unfolding inRange
+          ranged = rw (le-leb (getD row 3 0) 64 m, le-leb (getD row 4 0 % 4294967296) 2147483647 s, le-leb (getD row 4 0 / 4294967296) 2147483647 k)
+
+          pub gate-place : len < getD row 0 0 → BAD-STATE ≡ gateOf top len row
+          unfolding gateOf
+          gate-place h = rw (eq-eqb (length row) 5 five, ranged, lt-leb (getD row 0 0) len h)
+
+          module _ (p : getD row 0 0 ≤ len) where
+            pub gate-depth : getD row 3 0 < getD row 2 0 → BAD-STATE ≡ gateOf top len row
+            unfolding gateOf
+            gate-depth h = rw (eq-eqb (length row) 5 five, ranged, le-leb (getD row 0 0) len p, lt-leb (getD row 2 0) (getD row 3 0) h)
+
+            module _ (d : getD row 2 0 ≤ getD row 3 0) where
+              pub gate-open : getD row 1 0 < 65536 → 0 ≡ gateOf top len row
+              unfolding gateOf
+              gate-open h = rw (eq-eqb (length row) 5 five, ranged, le-leb (getD row 0 0) len p, le-leb (getD row 2 0) (getD row 3 0) d, lt-ltb (getD row 1 0) 65536 h)
+
+              module _ (w : 65536 ≤ getD row 1 0) where
+                pub gate-turn : getD row 1 0 < top → OUT-OF-TURN ≡ gateOf top len row
+                unfolding gateOf
+                gate-turn h =
+                    rw (eq-eqb (length row) 5 five, ranged, le-leb (getD row 0 0) len p, le-leb (getD row 2 0) (getD row 3 0) d, le-ltb (getD row 1 0) 65536 w, lt-ltb (getD row 1 0) top h)
+
+                pub gate-top : top ≤ getD row 1 0 → BAD-STATE ≡ gateOf top len row
+                unfolding gateOf
+                gate-top h =
+                    rw (eq-eqb (length row) 5 five, ranged, le-leb (getD row 0 0) len p, le-leb (getD row 2 0) (getD row 3 0) d, le-ltb (getD row 1 0) 65536 w, le-ltb (getD row 1 0) top h)
+
+pub ruleset gates = (gate-length, gate-most, gate-string, gate-container, gate-place, gate-depth, gate-open, gate-turn, gate-top)
+
+pub head-put : (row row′ row″ : List ℕ) (at n w : ℕ) (y z : ℤ) → row′ ≡ set row 0 at → row″ ≡ set row′ 1 (n + w * 65536) → n ≡ ofZ w16 y → y ≡ z → row″ ≡ set (set row 0 at) 1 (turnOf z w)
+head-put row row′ row″ at n w y z e f g h = rw (← h, ← g, ← e) f
+
+pub ruleset heading = (head-put, toZ-ofZ, sfits-of)
+
+-- what was written: the place behind it, and the header's id, as its bits
+pub wrote-moved : (row row′ : List ℕ) (w : Wrote) (p : ℕ) → w ≡ P.To p → row′ ≡ set row 0 p → row′ ≡ wroteRow row w
+wrote-moved row row′ w p e f = rw e f
+
+pub wrote-headed : (row row′ row″ : List ℕ) (w : Wrote) (p n : ℕ) (y z : ℤ) → w ≡ P.To p → row′ ≡ set row 0 p → row″ ≡ set row′ 1 n → n ≡ ofZ w16 y → y ≡ z → row″ ≡ headedRow row z w
+wrote-headed row row′ row″ w p n y z e f g h k = rw (e, ← k, ← h, ← f) g
+
+pub ruleset writings = (wrote-moved, wrote-headed, toZ-ofZ, sfits-of)
 
 -- a state from its numbers
-module _ (at last depth waits most string container : ℕ) where
+module _ (row : List ℕ) where
   module _ (r : I.State) (lim : TConfiguration) (e : r ≡ I.fresh lim) (f : lim ≡ noLimits) where
-    pub reader-last : 65536 ≤ last → r ≡ readerFrom at last depth waits most string container
-    unfolding readerFrom
-    reader-last h = rw (le-leb 65536 last h, e, f)
+    pub reader-short : (length row ≡ 5 → ⊥) → r ≡ readerOf row
+    unfolding readerOf
+    reader-short h = rw (ne-eqb (length row) 5 h, e, f)
 
-    module _ (a : last < 65536) where
-      pub reader-waits : 3 ≤ waits → r ≡ readerFrom at last depth waits most string container
-      unfolding readerFrom
-      reader-waits h = rw (lt-leb 65536 last a, le-leb 3 waits h, e, f)
+    pub reader-over : length row ≡ 5 → 196608 ≤ getD row 1 0 → r ≡ readerOf row
+    unfolding readerOf
+    reader-over a h = rw (eq-eqb (length row) 5 a, le-ltb (getD row 1 0) 196608 h, e, f)
 
-      module _ (b : waits < 3) where
-        pub reader-string : 4294967296 ≤ string → r ≡ readerFrom at last depth waits most string container
-        unfolding readerFrom
-        reader-string h = rw (lt-leb 65536 last a, lt-leb 3 waits b, le-leb 4294967296 string h, e, f)
+  pub reader-made : (y z : ℤ) (w : Awaited) (lim : TConfiguration) → length row ≡ 5 → getD row 1 0 < 196608 → z ≡ lastIn (getD row 1 0) → y ≡ z → w ≡ awaitedOf (waitsIn (getD row 1 0)) → lim ≡ limitsOf row → record { place = place (getD row 0 0); last = idOf y; depth = getD row 2 0; ids = replicate 64 (pos 0); pending = I.awaiting w; limits = lim } ≡ readerOf row
+  unfolding readerOf
+  reader-made y z w lim a b e k f g = rw (eq-eqb (length row) 5 a, lt-ltb (getD row 1 0) 196608 b, k, e, f, g)
 
-        pub reader-container : string < 4294967296 → 4294967296 ≤ container → r ≡ readerFrom at last depth waits most string container
-        unfolding readerFrom
-        reader-container g h = rw (lt-leb 65536 last a, lt-leb 3 waits b, lt-leb 4294967296 string g, le-leb 4294967296 container h, e, f)
-
-  pub reader-made : (y z : ℤ) (w : Awaited) → last < 65536 → waits < 3 → string < 4294967296 → container < 4294967296 → z ≡ unzigzag last → y ≡ z → w ≡ awaitedOf waits → record { place = place at; last = idOf y; depth = depth; ids = replicate 64 (pos 0); pending = I.awaiting w; limits = record { depth = most; string = string; container = container } } ≡ readerFrom at last depth waits most string container
-  unfolding readerFrom
-  reader-made y z w a b g h e k f = rw (lt-leb 65536 last a, lt-leb 3 waits b, lt-leb 4294967296 string g, lt-leb 4294967296 container h, k, e, f)
-
-pub reader-short : (row : List ℕ) (r : I.State) (lim : TConfiguration) → r ≡ I.fresh lim → lim ≡ noLimits → (length row ≡ 7 → ⊥) → r ≡ readerOf row
-unfolding readerOf
-reader-short row r lim e f h = rw (ne-eqb (length row) 7 h, e, f)
-
-pub reader-long : (row : List ℕ) (r : I.State) → length row ≡ 7 → r ≡ readerFrom (getD row 0 0) (getD row 1 0) (getD row 2 0) (getD row 3 0) (getD row 4 0) (getD row 5 0) (getD row 6 0) → r ≡ readerOf row
-unfolding readerOf
-reader-long row r h e = rw (eq-eqb (length row) 7 h, e)
-
-pub ruleset readers = (reader-short, reader-long, reader-last, reader-waits, reader-string, reader-container, reader-made, toZ-ofZ, sfits-of)
-
-module _ (at last depth waits most string container : ℕ) where
-  module _ (r : O.State) (lim : TConfiguration) (e : r ≡ O.begun lim) (f : lim ≡ noLimits) where
-    pub writer-last : 65536 ≤ last → r ≡ writerFrom at last depth waits most string container
-    unfolding writerFrom
-    writer-last h = rw (le-leb 65536 last h, e, f)
-
-    module _ (a : last < 65536) where
-      pub writer-waits : 65537 ≤ waits → r ≡ writerFrom at last depth waits most string container
-      unfolding writerFrom
-      writer-waits h = rw (lt-leb 65536 last a, le-leb 65537 waits h, e, f)
-
-      module _ (b : waits < 65537) where
-        pub writer-string : 4294967296 ≤ string → r ≡ writerFrom at last depth waits most string container
-        unfolding writerFrom
-        writer-string h = rw (lt-leb 65536 last a, lt-leb 65537 waits b, le-leb 4294967296 string h, e, f)
-
-        pub writer-container : string < 4294967296 → 4294967296 ≤ container → r ≡ writerFrom at last depth waits most string container
-        unfolding writerFrom
-        writer-container g h = rw (lt-leb 65536 last a, lt-leb 65537 waits b, lt-leb 4294967296 string g, le-leb 4294967296 container h, e, f)
-
-  pub writer-made : (y z : ℤ) (w : AwaitedField) → last < 65536 → waits < 65537 → string < 4294967296 → container < 4294967296 → z ≡ unzigzag last → y ≡ z → w ≡ fieldOf waits → record { place = place at; last = idOf y; depth = depth; ids = replicate 64 (pos 0); pending = O.pendingOf w; limits = record { depth = most; string = string; container = container } } ≡ writerFrom at last depth waits most string container
-  unfolding writerFrom
-  writer-made y z w a b g h e k f = rw (lt-leb 65536 last a, lt-leb 65537 waits b, lt-leb 4294967296 string g, lt-leb 4294967296 container h, k, e, f)
-
-pub writer-short : (row : List ℕ) (r : O.State) (lim : TConfiguration) → r ≡ O.begun lim → lim ≡ noLimits → (length row ≡ 7 → ⊥) → r ≡ writerOf row
-unfolding writerOf
-writer-short row r lim e f h = rw (ne-eqb (length row) 7 h, e, f)
-
-pub writer-long : (row : List ℕ) (r : O.State) → length row ≡ 7 → r ≡ writerFrom (getD row 0 0) (getD row 1 0) (getD row 2 0) (getD row 3 0) (getD row 4 0) (getD row 5 0) (getD row 6 0) → r ≡ writerOf row
-unfolding writerOf
-writer-long row r h e = rw (eq-eqb (length row) 7 h, e)
-
-pub ruleset writers = (writer-short, writer-long, writer-last, writer-waits, writer-string, writer-container, writer-made, toZ-ofZ, sfits-of)
+pub ruleset readers = (reader-short, reader-over, reader-made, toZ-ofZ, sfits-of)
 
 -- the row behind a call
 module _ (row : List ℕ) where
-  pub refilled-in : (at n depth waits : ℕ) (y z : ℤ) → length row ≡ 7 → n ≡ zigzag y → y ≡ z → set (set (set (set row 0 at) 1 n) 2 depth) 3 waits ≡ refilled row at z depth waits
+  pub refilled-in : (at n depth waits : ℕ) (y z : ℤ) → length row ≡ 5 → n ≡ ofZ w16 y → y ≡ z → set (set (set row 0 at) 1 (n + waits * 65536)) 2 depth ≡ refilled row at z depth waits
   unfolding refilled
-  refilled-in at n depth waits y z h e f = rw (eq-eqb (length row) 7 h, e, f)
+  refilled-in at n depth waits y z h e f = rw (eq-eqb (length row) 5 h, e, f)
 
-  pub refilled-not : (at depth waits : ℕ) (z : ℤ) → (length row ≡ 7 → ⊥) → row ≡ refilled row at z depth waits
+  pub refilled-not : (at depth waits : ℕ) (z : ℤ) → (length row ≡ 5 → ⊥) → row ≡ refilled row at z depth waits
   unfolding refilled
-  refilled-not at depth waits z h = rw (ne-eqb (length row) 7 h)
+  refilled-not at depth waits z h = rw (ne-eqb (length row) 5 h)
 
-pub ruleset refills = (refilled-in, refilled-not, wide, toZ-ofZ, sfits-of)
+pub ruleset refills = (refilled-in, refilled-not, toZ-ofZ, sfits-of)
 
 module _ (row : List ℕ) (why : ℕ) where
   module _ (st : I.State) where
@@ -179,13 +187,4 @@ module _ (row : List ℕ) (why : ℕ) where
     unfolding readerAfter
     reader-left h = rw (ne-eqb why 0 h)
 
-  module _ (st : O.State) where
-    pub writer-kept : (after : List ℕ) (n : ℕ) (y : ℤ) → why ≡ 0 → n ≡ fieldNo (st .pending .0) → after ≡ refilled row (st .place .0) y (st .depth) n → y ≡ st .last .0 → after ≡ writerAfter row why st
-    unfolding writerAfter
-    writer-kept after n y h e f g = rw (eq-eqb why 0 h, ← e, ← g) f
-
-    pub writer-left : (why ≡ 0 → ⊥) → row ≡ writerAfter row why st
-    unfolding writerAfter
-    writer-left h = rw (ne-eqb why 0 h)
-
-pub ruleset keeps = (reader-kept, reader-left, writer-kept, writer-left, toZ-ofZ, sfits-of)
+pub ruleset keeps = (reader-kept, reader-left, toZ-ofZ, sfits-of)

@@ -1,12 +1,10 @@
 -- Skip by number, and the struct calls, at each of their returns. Assumes nothing.
-use mathlib.Core.Path.{_≡_, refl, sym, ap, subst, _∙_}
-use mathlib.Core.Bool.{Bool, true, false, cond}
+use mathlib.Core.Path.{_≡_, refl, sym}
 use mathlib.Core.List.{List, [], _∷_}
-use Prim.Native.Nat.{ℕ, zero, suc, _≤_, _<_}
+use Prim.Native.Nat.{ℕ, zero, suc, _≤_}
 use native.Mathlib.Omega.{arith}
 use borrow.Author.Needs.{sfits-of}
 use borrow.Author.Tests.{eq-eqb, ne-eqb}
-use lib.Dec.{eqb}
 use lib.IntN.{ℤ, pos}
 use lib.ListN.{length, getD, set}
 use lib.Seq.{set-out}
@@ -15,23 +13,15 @@ use Rattle.types.specs.Codes.{typeByNumber}
 use Rattle.types.specs.declared.TType.{TType}
 use Rattle.types.specs.declared.TypeRead.{TypeRead}
 use Rattle.types.specs.declared.TypeRead.the-variants as R
-use Rattle.types.specs.declared.TConfiguration.{TConfiguration}
-use Rattle.heads.specs.Answers.{idOf}
 use Rattle.input.specs.State as I
 use Rattle.input.specs.Answers.{numberDone}
-use Rattle.input.specs.Calls.{structBegin, structEnd}
 use Rattle.input.specs.declared.DoneAnswer.{DoneAnswer}
 use Rattle.input.specs.declared.DoneAnswer.the-variants as N
 use Rattle.input.specs.declared.ReadDone.{ReadDone}
 use Rattle.output.specs.State as O
-use Rattle.output.specs.declared.WriteAnswer.{WriteAnswer}
-use Rattle.output.specs.declared.WriteAnswer.the-variants as WA
-use Rattle.output.specs.declared.Written.{Written}
 use Rattle.skip.specs.Skip.{skipCall}
-use Rattle.rows.specs.Row.{noLimits, readerOf, writerOf, readerAfter, writerAfter}
-use Rattle.rows.specs.Reads.{ToldDone}
-use Rattle.rows.specs.Writes.{numberWritten, Kept}
-use Rattle.rows.specs.Structs.{skipBy, structReader, structWriter, beginWrites, beginLeaves, endWrites, endLeaves, BegunRead, EndedRead, BegunWrite, EndedWrite, lastWrite}
+use Rattle.rows.specs.Row.{readerAfter}
+use Rattle.rows.specs.Structs.{skipBy}
 
 -- skip of a type by its number
 module _ (s : List ℕ) (n : ℕ) (st : I.State) (t : TypeRead) (e : t ≡ typeByNumber n) where
@@ -50,25 +40,18 @@ module _ (s : List ℕ) (n : ℕ) (st : I.State) (t : TypeRead) (e : t ≡ typeB
 
 pub ruleset skipping = (skip-typed, skip-stopped, skip-untyped)
 
--- a state with its row of ids
-module _ (row : List ℕ) (ids : List ℤ) where
-  pub reader-ids : (r : I.State) → length ids ≡ 64 → r ≡ readerOf row → r ≡ structReader row ids
-  unfolding structReader
-  reader-ids r h e = rw (eq-eqb (length ids) 64 h, e)
+-- the row, by the number that the answer gives
+pub after-by : (row after : List ℕ) (n m : ℕ) (st : I.State) → after ≡ readerAfter row n st → n ≡ m → after ≡ readerAfter row m st
+after-by row after n m st e f = rw f at e
 
-  pub reader-no-ids : (r : I.State) (lim : TConfiguration) → (length ids ≡ 64 → ⊥) → r ≡ I.fresh lim → lim ≡ noLimits → r ≡ structReader row ids
-  unfolding structReader
-  reader-no-ids r lim h e f = rw (ne-eqb (length ids) 64 h, e, f)
+module _ (a : DoneAnswer) where
+  pub done-done : (n : ℕ) → a ≡ N.Done → n ≡ 0 → n ≡ numberDone a
+  done-done n e f = rw e f
 
-  pub writer-ids : (r : O.State) → length ids ≡ 64 → r ≡ writerOf row → r ≡ structWriter row ids
-  unfolding structWriter
-  writer-ids r h e = rw (eq-eqb (length ids) 64 h, e)
+  pub done-refused : (why n : ℕ) → a ≡ N.Refused why → n ≡ why → n ≡ numberDone a
+  done-refused why n e f = rw e f
 
-  pub writer-no-ids : (r : O.State) (lim : TConfiguration) → (length ids ≡ 64 → ⊥) → r ≡ O.begun lim → lim ≡ noLimits → r ≡ structWriter row ids
-  unfolding structWriter
-  writer-no-ids r lim h e f = rw (ne-eqb (length ids) 64 h, e, f)
-
-pub ruleset with-ids = (reader-ids, reader-no-ids, writer-ids, writer-no-ids)
+pub ruleset done-told = (after-by, done-done, done-refused)
 
 -- an id saved past the row's end changes nothing
 none-there : (ids : List ℤ) (i : ℕ) → length ids ≤ i → getD ids i (pos 0) ≡ pos 0

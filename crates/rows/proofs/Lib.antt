@@ -1,4 +1,3 @@
 pub mod Cases
-pub mod Found
-pub mod Wrote
+pub mod Gate
 pub mod Ids

@@ -2,4 +2,3 @@
 pub mod row;
 pub mod structs;
 pub mod told;
-pub mod typed;

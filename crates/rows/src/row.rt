@@ -1,35 +1,161 @@
-// A state in a lent row of seven numbers, read and written back.
+// A state in a lent row of five numbers: what a call asks of it and leaves in it, and the whole state where a call needs one.
 ghost use mathlib.Core.Path.{_≡_};
 ghost use Prim.Native.Nat.{_<_};
-ghost use Rattle.zigzag.specs.Zigzag.{zigzag, unzigzag};
-ghost use Rattle.rows.specs.Row.{awaitedOf, awaitedNo, fieldOf, fieldNo, readerFrom, readerOf, writerFrom, writerOf, refilled, readerAfter, writerAfter};
-ghost use Rattle.input.specs.State.{fresh};
-ghost use Rattle.output.specs.State.{begun};
-ghost use Rattle.rows.specs.Row.{noLimits};
+ghost use lib.ListN.{getD, set};
+ghost use mir.Syntax.{w16};
+ghost use mir.Val.{ofZ};
+ghost use Rattle.input.specs.State as I;
+ghost use Rattle.output.specs.State as O;
+ghost use Rattle.rows.specs.Row.{lastIn, turnOf, limitsOf, noLimits, awaitedOf, awaitedNo, readerOf, writerOf, gateOf, refilled, readerAfter, wroteNumber, wroteRow, headedRow};
 use input::Awaited;
 use input::Pending;
 use input::TCompactInputProtocol;
-use output::AwaitedField;
-use output::PendingField;
-use output::TCompactOutputProtocol;
+use numbers::Wrote;
 use types::FieldId;
 use types::Place;
 use types::TConfiguration;
 
-const NUMBERS: usize = 7;
+const NUMBERS: usize = 5;
 
-// An id in 16 bits, from its zigzag number and back.
-fn id_of(n: u64) -> i16
-    requires { ⌜ n < 65536 ⌝ }
-    ensures { λ r. ⌜ r ≡ unzigzag n ⌝ }
+// What waits stands above the last id's 16 bits: a reader's is below 3, a writer's below 65,537.
+const READER_TOP: u64 = 196608;
+
+const WRITER_TOP: u64 = 4295032832;
+
+pub fn number(row: &[u64], i: usize) -> u64
+    ensures { λ r. ⌜ r ≡ getD (now (row .entry)) i 0 ⌝ }
 {
-    zigzag::zigzag_to_i32(n as u32) as i16
+    if i < row.len() {
+        return row[i];
+    }
+    0
 }
 
-fn id_no(id: i16) -> u64
-    ensures { λ r. ⌜ (r ≡ zigzag id) × (r < 65536) ⌝ }
+pub fn put(row: &mut [u64], i: usize, n: u64)
+    ensures { λ _. ⌜ now (row .exit) ≡ set (now (row .entry)) i n ⌝ }
 {
-    zigzag::i32_to_zigzag(id as i32) as u64
+    if i < row.len() {
+        row[i] = n;
+    }
+}
+
+pub fn place(row: &[u64]) -> usize
+    ensures { λ r. ⌜ r ≡ getD (now (row .entry)) 0 0 ⌝ }
+{
+    number(row, 0) as usize
+}
+
+// An id from the low 16 bits of a number, and its bits.
+pub fn id_of(n: u64) -> i16
+    ensures { λ r. ⌜ r ≡ lastIn n ⌝ }
+{
+    zigzag::signed16((n % 65536) as u16)
+}
+
+pub fn id_no(id: i16) -> u64
+    ensures { λ r. ⌜ (r ≡ ofZ w16 id) × (r < 65536) ⌝ }
+{
+    zigzag::bits16(id) as u64
+}
+
+pub fn last(row: &[u64]) -> i16
+    ensures { λ r. ⌜ r ≡ lastIn (getD (now (row .entry)) 1 0) ⌝ }
+{
+    id_of(number(row, 1))
+}
+
+pub fn limits(row: &[u64]) -> TConfiguration
+    ensures { λ r. ⌜ r ≡ limitsOf (now (row .entry)) ⌝ }
+{
+    let depth = number(row, 3) as usize;
+    let sizes = number(row, 4);
+    TConfiguration {
+        depth,
+        string: (sizes % 4294967296) as u32,
+        container: (sizes / 4294967296) as u32,
+    }
+}
+
+// What a call refuses before it looks at anything else: BAD STATE, then OUT OF TURN; 0 where neither is. `top` is above what number 1 may be.
+fn refusal(row: &[u64], len: usize, top: u64) -> u8
+    ensures { λ r. ⌜ r ≡ gateOf top len (now (row .entry)) ⌝ }
+{
+    if row.len() == NUMBERS {
+        let at = row[0];
+        let turn = row[1];
+        let depth = row[2];
+        let most = row[3];
+        let sizes = row[4];
+        if 64 < most {
+            return types::BAD_STATE;
+        }
+        if 2147483647 < sizes % 4294967296 {
+            return types::BAD_STATE;
+        }
+        if 2147483647 < sizes / 4294967296 {
+            return types::BAD_STATE;
+        }
+        if (len as u64) < at {
+            return types::BAD_STATE;
+        }
+        if most < depth {
+            return types::BAD_STATE;
+        }
+        if turn < 65536 {
+            return 0;
+        }
+        if turn < top {
+            return types::OUT_OF_TURN;
+        }
+    }
+    types::BAD_STATE
+}
+
+pub fn gate(row: &[u64], len: usize) -> u8
+    ensures { λ r. ⌜ r ≡ I.gate len (readerOf (now (row .entry))) ⌝ }
+{
+    refusal(row, len, READER_TOP)
+}
+
+pub fn writer_gate(row: &[u64], len: usize) -> u8
+    ensures { λ r. ⌜ r ≡ O.orElse (O.unsound len (writerOf (now (row .entry)))) (O.turn (writerOf (now (row .entry)) .pending .0)) ⌝ }
+{
+    refusal(row, len, WRITER_TOP)
+}
+
+// Behind a header, with its last id and what waits.
+pub fn head(row: &mut [u64], at: usize, id: i16, waits: u8)
+    ensures { λ _. ⌜ now (row .exit) ≡ set (set (now (row .entry)) 0 at) 1 (turnOf id waits) ⌝ }
+{
+    put(row, 0, at as u64);
+    put(row, 1, id_no(id) + (waits as u64) * 65536);
+}
+
+// What was written, told: the row moves behind it, or stays where it was refused.
+pub fn wrote(row: &mut [u64], wrote: Wrote) -> u8
+    ensures { λ r. ⌜ (r ≡ wroteNumber wrote) × (now (row .exit) ≡ wroteRow (now (row .entry)) wrote) ⌝ }
+{
+    match wrote {
+        Wrote::To(p) => {
+            put(row, 0, p as u64);
+            0
+        }
+        Wrote::Refused(why) => why,
+    }
+}
+
+// The same of a field's header, whose id is the last one from then on.
+pub fn headed(row: &mut [u64], id: i16, wrote: Wrote) -> u8
+    ensures { λ r. ⌜ (r ≡ wroteNumber wrote) × (now (row .exit) ≡ headedRow (now (row .entry)) id wrote) ⌝ }
+{
+    match wrote {
+        Wrote::To(p) => {
+            put(row, 0, p as u64);
+            put(row, 1, id_no(id));
+            0
+        }
+        Wrote::Refused(why) => why,
+    }
 }
 
 fn awaited_of(n: u64) -> Awaited
@@ -42,7 +168,7 @@ fn awaited_of(n: u64) -> Awaited
 }
 
 fn awaited_no(awaited: Awaited) -> u64
-    ensures { λ r. ⌜ r ≡ awaitedNo awaited ⌝ }
+    ensures { λ r. ⌜ (r ≡ awaitedNo awaited) × (r < 65537) ⌝ }
 {
     match awaited {
         Awaited::Nothing => 0,
@@ -50,26 +176,7 @@ fn awaited_no(awaited: Awaited) -> u64
     }
 }
 
-fn field_of(n: u64) -> AwaitedField
-    requires { ⌜ n < 65537 ⌝ }
-    ensures { λ r. ⌜ r ≡ fieldOf n ⌝ }
-{
-    if n == 0 {
-        return AwaitedField::Nothing;
-    }
-    AwaitedField::Field(FieldId(id_of(n - 1)))
-}
-
-fn field_no(awaited: AwaitedField) -> u64
-    ensures { λ r. ⌜ r ≡ fieldNo awaited ⌝ }
-{
-    match awaited {
-        AwaitedField::Nothing => 0,
-        AwaitedField::Field(id) => id_no(id.0) + 1,
-    }
-}
-
-pub fn no_limits() -> TConfiguration
+fn no_limits() -> TConfiguration
     ensures { λ r. ⌜ r ≡ noLimits ⌝ }
 {
     TConfiguration {
@@ -79,108 +186,36 @@ pub fn no_limits() -> TConfiguration
     }
 }
 
-fn reader_from(
-    at: u64,
-    last: u64,
-    depth: u64,
-    waits: u64,
-    most: u64,
-    string: u64,
-    container: u64,
-) -> TCompactInputProtocol
-    ensures { λ r. ⌜ r ≡ readerFrom at last depth waits most string container ⌝ }
-{
-    if 65536 <= last {
-        return TCompactInputProtocol::new(no_limits());
-    }
-    if 3 <= waits {
-        return TCompactInputProtocol::new(no_limits());
-    }
-    if 4294967296 <= string {
-        return TCompactInputProtocol::new(no_limits());
-    }
-    if 4294967296 <= container {
-        return TCompactInputProtocol::new(no_limits());
-    }
-    let limits = TConfiguration {
-        depth: most as usize,
-        string: string as u32,
-        container: container as u32,
-    };
-    TCompactInputProtocol {
-        place: Place(at as usize),
-        last: FieldId(id_of(last)),
-        depth: depth as usize,
-        ids: [0; 64],
-        pending: Pending(awaited_of(waits)),
-        limits,
-    }
-}
-
 pub fn reader_of(row: &[u64]) -> TCompactInputProtocol
     ensures { λ r. ⌜ r ≡ readerOf (now (row .entry)) ⌝ }
 {
-    if row.len() == NUMBERS {
-        return reader_from(row[0], row[1], row[2], row[3], row[4], row[5], row[6]);
+    if row.len() != NUMBERS {
+        return TCompactInputProtocol::new(no_limits());
     }
-    TCompactInputProtocol::new(no_limits())
-}
-
-fn writer_from(
-    at: u64,
-    last: u64,
-    depth: u64,
-    waits: u64,
-    most: u64,
-    string: u64,
-    container: u64,
-) -> TCompactOutputProtocol
-    ensures { λ r. ⌜ r ≡ writerFrom at last depth waits most string container ⌝ }
-{
-    if 65536 <= last {
-        return TCompactOutputProtocol::new(no_limits());
+    let turn = row[1];
+    if READER_TOP <= turn {
+        return TCompactInputProtocol::new(no_limits());
     }
-    if 65537 <= waits {
-        return TCompactOutputProtocol::new(no_limits());
-    }
-    if 4294967296 <= string {
-        return TCompactOutputProtocol::new(no_limits());
-    }
-    if 4294967296 <= container {
-        return TCompactOutputProtocol::new(no_limits());
-    }
-    let limits = TConfiguration {
-        depth: most as usize,
-        string: string as u32,
-        container: container as u32,
-    };
-    TCompactOutputProtocol {
-        place: Place(at as usize),
-        last: FieldId(id_of(last)),
-        depth: depth as usize,
+    let at = row[0] as usize;
+    let depth = row[2] as usize;
+    TCompactInputProtocol {
+        place: Place(at),
+        last: FieldId(id_of(turn)),
+        depth,
         ids: [0; 64],
-        pending: PendingField(field_of(waits)),
-        limits,
+        pending: Pending(awaited_of(turn / 65536)),
+        limits: limits(row),
     }
-}
-
-pub fn writer_of(row: &[u64]) -> TCompactOutputProtocol
-    ensures { λ r. ⌜ r ≡ writerOf (now (row .entry)) ⌝ }
-{
-    if row.len() == NUMBERS {
-        return writer_from(row[0], row[1], row[2], row[3], row[4], row[5], row[6]);
-    }
-    TCompactOutputProtocol::new(no_limits())
 }
 
 fn refill(row: &mut [u64], at: usize, last: i16, depth: usize, waits: u64)
+    requires { ⌜ waits < 65537 ⌝ }
     ensures { λ _. ⌜ now (row .exit) ≡ refilled (now (row .entry)) at last depth waits ⌝ }
 {
     if row.len() == NUMBERS {
         row[0] = at as u64;
-        row[1] = id_no(last);
+        row[1] = id_no(last) + waits * 65536;
         row[2] = depth as u64;
-        row[3] = waits;
     }
 }
 
@@ -194,19 +229,6 @@ pub fn keep_reader(row: &mut [u64], why: u8, state: TCompactInputProtocol) -> u8
         let at = state.place.0;
         let last = state.last.0;
         refill(row, at, last, state.depth, awaited_no(awaited));
-    }
-    why
-}
-
-pub fn keep_writer(row: &mut [u64], why: u8, state: TCompactOutputProtocol) -> u8
-    ensures { λ r. ⌜ (r ≡ why) × (now (row .exit) ≡ writerAfter (now (row .entry)) why state) ⌝ }
-{
-    if why == 0 {
-        let pending = state.pending;
-        let awaited = pending.0;
-        let at = state.place.0;
-        let last = state.last.0;
-        refill(row, at, last, state.depth, field_no(awaited));
     }
     why
 }

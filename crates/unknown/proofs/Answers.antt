@@ -14,7 +14,7 @@ use Rattle.types.specs.declared.TType.the-variants as T
 use Rattle.types.specs.Value as val
 use Rattle.types.specs.Value.{Tree, Pairs, no-pairs, pair, Fields, no-fields, typeOf}
 use Rattle.numbers.proofs.Found.{take-drop}
-use Rattle.output.specs.Bytes.{fieldBytes}
+use Rattle.puts.specs.Bytes.{fieldBytes}
 use Rattle.skip.specs.Walk.{Entry}
 use Rattle.wanted.specs.Wanted.{sameId}
 use Rattle.picker.specs.Pick.{Row, kindAlone, rowOf, Own, owned, ownFrom, Last, lastOf, occurs, ofId, ofType, answered, answer}

@@ -18,7 +18,7 @@ use Rattle.types.proofs.Limits.{Ranged}
 use Rattle.numbers.specs.Varint.{Found, got, placed}
 use Rattle.heads.specs.Reader.{readAt}
 use Rattle.heads.specs.Heads.{Field, stop, bool, value, field}
-use Rattle.output.specs.Bytes.{fieldBytes}
+use Rattle.puts.specs.Bytes.{fieldBytes}
 use Rattle.output.proofs.Fields.{stop-reads, bool-reads, value-reads}
 use Rattle.skip.specs.Walk.{Entry, fields}
 use Rattle.skip.specs.Value.{valueOf}

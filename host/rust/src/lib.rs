@@ -37,14 +37,14 @@ pub use refusal::Refusal;
 pub use types::{TConfiguration, TFieldIdentifier, TListIdentifier, TMapIdentifier, TMessageIdentifier, TMessageType, TType};
 pub use writer::TCompactOutputProtocol;
 
-/// How many numbers a state's row has: place, last id, depth, what waits, and the three limits.
-pub(crate) const ROW: usize = 7;
+/// How many numbers a state's row has: place, last id with what waits, depth, the limit on depth, the two on sizes.
+pub(crate) const ROW: usize = 5;
 /// How many ids of outer structs it can keep.
 pub(crate) const IDS: usize = 64;
 
 /// The row of a new state under these limits.
 pub(crate) fn new_row(limits: TConfiguration) -> [u64; ROW] {
-    [0, 0, 0, 0, limits.depth as u64, limits.string as u64, limits.container as u64]
+    [0, 0, 0, limits.depth as u64, (limits.container as u64) << 32 | limits.string as u64]
 }
 
 /// Ok where the number is 0.

@@ -122,6 +122,74 @@ fn a_refusal_leaves_all_as_it_was() {
 }
 
 #[test]
+fn limits_of_sizes() {
+    // Each has a range of its own, and neither runs into the other.
+    for (string, container) in [(1 << 31, 0), (0, 1 << 31), (u32::MAX, u32::MAX)] {
+        let limits = TConfiguration { depth: 64, string, container };
+        assert_eq!(TCompactInputProtocol::with_config(&[0], limits).read_i8(), Err(Refusal::BAD_STATE));
+        assert_eq!(TCompactOutputProtocol::with_config(&mut [0], limits).write_i8(0), Err(Refusal::BAD_STATE));
+    }
+    let limits = TConfiguration { depth: 64, string: i32::MAX as u32, container: 1 };
+    assert_eq!(TCompactInputProtocol::with_config(&[0x25, 0, 0], limits).read_list_begin(), Err(Refusal::SIZE_LIMIT));
+    assert_eq!(TCompactInputProtocol::with_config(&[2, 7, 8], limits).read_bytes(), Ok(&[7, 8][..]));
+    let limits = TConfiguration { depth: 64, string: 1, container: i32::MAX as u32 };
+    assert_eq!(TCompactInputProtocol::with_config(&[2, 7, 8], limits).read_bytes(), Err(Refusal::SIZE_LIMIT));
+    assert!(TCompactInputProtocol::with_config(&[0x25, 0, 0], limits).read_list_begin().is_ok());
+}
+
+#[test]
+fn ids_below_zero() {
+    // Last ids of either sign, with bools that wait beside them, and put by while a struct is read or written.
+    let fields = [(TType::I32, -2), (TType::Bool, -1), (TType::Struct, 3), (TType::Bool, i16::MAX), (TType::Bool, i16::MIN), (TType::Bool, 0)];
+    let mut buffer = [0; 64];
+    let mut out = TCompactOutputProtocol::new(&mut buffer);
+    out.write_struct_begin().unwrap();
+    for (kind, id) in fields {
+        out.write_field_begin(kind, id).unwrap();
+        match kind {
+            TType::I32 => out.write_i32(id as i32).unwrap(),
+            TType::Bool => {
+                assert_eq!(out.write_field_stop(), Err(Refusal::OUT_OF_TURN));
+                out.write_bool(id < 0).unwrap();
+            }
+            _ => {
+                out.write_struct_begin().unwrap();
+                out.write_field_begin(TType::Bool, -7).unwrap();
+                out.write_bool(true).unwrap();
+                out.write_field_stop().unwrap();
+                out.write_struct_end().unwrap();
+            }
+        }
+    }
+    out.write_field_stop().unwrap();
+    out.write_struct_end().unwrap();
+
+    let mut input = TCompactInputProtocol::new(out.written());
+    input.read_struct_begin().unwrap();
+    for (kind, id) in fields {
+        let field = input.read_field_begin().unwrap();
+        assert_eq!((field.field_type, field.id), (kind, Some(id)));
+        match kind {
+            TType::I32 => assert_eq!(input.read_i32(), Ok(id as i32)),
+            TType::Bool => {
+                assert_eq!(input.read_field_begin(), Err(Refusal::OUT_OF_TURN));
+                assert_eq!(input.read_bool(), Ok(id < 0));
+            }
+            _ => {
+                input.read_struct_begin().unwrap();
+                assert_eq!(input.read_field_begin().unwrap().id, Some(-7));
+                input.skip(TType::Bool).unwrap();
+                assert_eq!(input.read_field_begin().unwrap().field_type, TType::Stop);
+                input.read_struct_end().unwrap();
+            }
+        }
+    }
+    assert_eq!(input.read_field_begin().unwrap().field_type, TType::Stop);
+    input.read_struct_end().unwrap();
+    assert_eq!(input.rest(), &[] as &[u8]);
+}
+
+#[test]
 fn bare_numbers() {
     let mut buffer = [0; 10];
     for n in [0, 127, 128, u32::MAX as u64, u64::MAX] {

@@ -1,5 +1,5 @@
 use borrow.Author.Needs.{needs}
-use Rattle.rows.proofs.Cases.{ids}
+use Rattle.host.proofs.Bared.{zigs}
 use Rattle.host.proofs.bare.tagrumzil_i64_to_zigzag.Statement.{statement}
 use Rattle.host.proofs.bare.tagrumzil_i64_to_zigzag.Tie as tie
 
@@ -8,4 +8,4 @@ tagrumzil-i64-to-zigzag-spec =
     tie.close
     (tie.spec
     (λ c κs. search needs)
-    (λ c. search ids))
+    (λ c. search zigs))

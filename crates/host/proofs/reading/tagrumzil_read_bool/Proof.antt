@@ -1,5 +1,5 @@
 use borrow.Author.Needs.{needs}
-use Rattle.host.proofs.Through.{through}
+use Rattle.host.proofs.Through.{bool-reads}
 use Rattle.host.proofs.reading.tagrumzil_read_bool.Statement.{statement}
 use Rattle.host.proofs.reading.tagrumzil_read_bool.Tie as tie
 
@@ -11,4 +11,15 @@ tagrumzil-read-bool-spec =
     (λ c κs. search needs)
     (λ c κs. search needs)
     (λ c. search needs)
-    (λ c. search through))
+    (λ c. search bool-reads)
+    (λ c. search needs)
+    (λ c. search bool-reads)
+    (λ c κs. search needs)
+    (λ c κs. search needs)
+    (λ c. search needs)
+    (λ c κs. search needs)
+    (λ c. search needs)
+    (λ c. search needs)
+    (λ c. search bool-reads)
+    (λ c. search needs)
+    (λ c. search bool-reads))

@@ -1,5 +1,5 @@
 use borrow.Author.Needs.{needs}
-use Rattle.host.proofs.Through.{through}
+use Rattle.host.proofs.Through.{bytes-reads}
 use Rattle.host.proofs.reading.tagrumzil_read_bytes.Statement.{statement}
 use Rattle.host.proofs.reading.tagrumzil_read_bytes.Tie as tie
 
@@ -8,7 +8,15 @@ tagrumzil-read-bytes-spec =
     tie.close
     (tie.spec
     (λ c κs. search needs)
+    (λ c. search needs)
+    (λ c. search bytes-reads)
+    (λ c κs. search needs)
     (λ c κs. search needs)
     (λ c κs. search needs)
     (λ c. search needs)
-    (λ c. search through))
+    (λ c κs. search needs)
+    (λ c. search needs)
+    (λ c. search needs)
+    (λ c. search bytes-reads)
+    (λ c. search needs)
+    (λ c. search bytes-reads))

@@ -1,5 +1,5 @@
 use borrow.Author.Needs.{needs}
-use Rattle.host.proofs.Through.{through}
+use Rattle.host.proofs.Through.{message-reads}
 use Rattle.host.proofs.reading.tagrumzil_read_message_begin.Statement.{statement}
 use Rattle.host.proofs.reading.tagrumzil_read_message_begin.Tie as tie
 
@@ -8,7 +8,16 @@ tagrumzil-read-message-begin-spec =
     tie.close
     (tie.spec
     (λ c κs. search needs)
+    (λ c. search needs)
+    (λ c. search message-reads)
+    (λ c κs. search needs)
     (λ c κs. search needs)
     (λ c κs. search needs)
     (λ c. search needs)
-    (λ c. search through))
+    (λ c κs. search needs)
+    (λ c κs. search needs)
+    (λ c. search needs)
+    (λ c. search needs)
+    (λ c. search message-reads)
+    (λ c. search needs)
+    (λ c. search message-reads))

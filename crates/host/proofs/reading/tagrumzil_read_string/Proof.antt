@@ -1,5 +1,5 @@
 use borrow.Author.Needs.{needs}
-use Rattle.host.proofs.Through.{through}
+use Rattle.host.proofs.Through.{string-reads}
 use Rattle.host.proofs.reading.tagrumzil_read_string.Statement.{statement}
 use Rattle.host.proofs.reading.tagrumzil_read_string.Tie as tie
 
@@ -8,7 +8,15 @@ tagrumzil-read-string-spec =
     tie.close
     (tie.spec
     (λ c κs. search needs)
+    (λ c. search needs)
+    (λ c. search string-reads)
+    (λ c κs. search needs)
     (λ c κs. search needs)
     (λ c κs. search needs)
     (λ c. search needs)
-    (λ c. search through))
+    (λ c κs. search needs)
+    (λ c. search needs)
+    (λ c. search needs)
+    (λ c. search string-reads)
+    (λ c. search needs)
+    (λ c. search string-reads))

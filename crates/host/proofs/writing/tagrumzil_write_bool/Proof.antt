@@ -1,5 +1,5 @@
 use borrow.Author.Needs.{needs}
-use Rattle.host.proofs.Making.{making}
+use Rattle.host.proofs.Making.{bool-cases}
 use Rattle.host.proofs.writing.tagrumzil_write_bool.Statement.{statement}
 use Rattle.host.proofs.writing.tagrumzil_write_bool.Tie as tie
 
@@ -10,6 +10,20 @@ tagrumzil-write-bool-spec =
     (λ c κs. search needs)
     (λ c κs. search needs)
     (λ c κs. search needs)
+    (λ c κs. search needs)
+    (λ c κs. search needs)
     (λ c. search needs)
     (λ c. search needs)
-    (λ c. search making))
+    (λ c. search bool-cases)
+    (λ c κs. search needs)
+    (λ c. search needs)
+    (λ c κs. search needs)
+    (λ c κs. search needs)
+    (λ c κs. search needs)
+    (λ c κs. search needs)
+    (λ c κs. search needs)
+    (λ c. search needs)
+    (λ c. search needs)
+    (λ c. search bool-cases)
+    (λ c. search needs)
+    (λ c. search bool-cases))

@@ -1,5 +1,5 @@
 use borrow.Author.Needs.{needs}
-use Rattle.host.proofs.Making.{making}
+use Rattle.host.proofs.Making.{bytes-cases}
 use Rattle.host.proofs.writing.tagrumzil_write_bytes.Statement.{statement}
 use Rattle.host.proofs.writing.tagrumzil_write_bytes.Tie as tie
 
@@ -8,8 +8,15 @@ tagrumzil-write-bytes-spec =
     tie.close
     (tie.spec
     (λ c κs. search needs)
+    (λ c. search needs)
+    (λ c. search bytes-cases)
+    (λ c κs. search needs)
+    (λ c κs. search needs)
+    (λ c. search needs)
+    (λ c. search bytes-cases)
+    (λ c κs. search needs)
     (λ c κs. search needs)
     (λ c κs. search needs)
     (λ c. search needs)
     (λ c. search needs)
-    (λ c. search making))
+    (λ c. search bytes-cases))

@@ -1,5 +1,5 @@
 use borrow.Author.Needs.{needs}
-use Rattle.host.proofs.Making.{making}
+use Rattle.host.proofs.Making.{field-cases}
 use Rattle.host.proofs.writing.tagrumzil_write_field_begin.Statement.{statement}
 use Rattle.host.proofs.writing.tagrumzil_write_field_begin.Tie as tie
 
@@ -8,8 +8,27 @@ tagrumzil-write-field-begin-spec =
     tie.close
     (tie.spec
     (λ c κs. search needs)
+    (λ c. search needs)
+    (λ c. search field-cases)
+    (λ c. search needs)
+    (λ c. search field-cases)
+    (λ c κs. search needs)
+    (λ c. search needs)
+    (λ c. search needs)
     (λ c κs. search needs)
     (λ c κs. search needs)
     (λ c. search needs)
     (λ c. search needs)
-    (λ c. search making))
+    (λ c. search field-cases)
+    (λ c κs. search needs)
+    (λ c. search needs)
+    (λ c. search field-cases)
+    (λ c κs. search needs)
+    (λ c κs. search needs)
+    (λ c κs. search needs)
+    (λ c κs. search needs)
+    (λ c. search needs)
+    (λ c. search field-cases)
+    (λ c. search needs)
+    (λ c. search needs)
+    (λ c. search field-cases))

@@ -1,5 +1,5 @@
 use borrow.Author.Needs.{needs}
-use Rattle.host.proofs.Making.{making}
+use Rattle.host.proofs.Making.{items-by}
 use Rattle.host.proofs.writing.tagrumzil_write_list_begin.Statement.{statement}
 use Rattle.host.proofs.writing.tagrumzil_write_list_begin.Tie as tie
 
@@ -8,8 +8,6 @@ tagrumzil-write-list-begin-spec =
     tie.close
     (tie.spec
     (λ c κs. search needs)
-    (λ c κs. search needs)
-    (λ c κs. search needs)
     (λ c. search needs)
     (λ c. search needs)
-    (λ c. search making))
+    (λ c. search items-by))

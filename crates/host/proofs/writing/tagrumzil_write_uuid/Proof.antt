@@ -1,5 +1,5 @@
 use borrow.Author.Needs.{needs}
-use Rattle.host.proofs.Making.{making}
+use Rattle.host.proofs.Making.{plain-cases}
 use Rattle.host.proofs.writing.tagrumzil_write_uuid.Statement.{statement}
 use Rattle.host.proofs.writing.tagrumzil_write_uuid.Tie as tie
 
@@ -8,8 +8,11 @@ tagrumzil-write-uuid-spec =
     tie.close
     (tie.spec
     (λ c κs. search needs)
+    (λ c. search needs)
+    (λ c. search plain-cases)
+    (λ c κs. search needs)
     (λ c κs. search needs)
     (λ c κs. search needs)
     (λ c. search needs)
     (λ c. search needs)
-    (λ c. search making))
+    (λ c. search plain-cases))

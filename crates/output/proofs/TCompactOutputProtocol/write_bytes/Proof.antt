@@ -1,5 +1,5 @@
 use borrow.Author.Needs.{needs}
-use Rattle.output.proofs.Cases.{bytes-cases}
+use Rattle.output.proofs.Cases.{plain-cases}
 use Rattle.output.proofs.TCompactOutputProtocol.write_bytes.Statement.{statement}
 use Rattle.output.proofs.TCompactOutputProtocol.write_bytes.Tie as tie
 
@@ -10,8 +10,8 @@ write-bytes-spec =
     (λ c κs. search needs)
     (λ c κs. search needs)
     (λ c κs. search needs)
-    (λ c. search bytes-cases)
-    (λ c κs. search bytes-cases)
+    (λ c. search plain-cases)
+    (λ c κs. search needs)
     (λ c κs. search needs)
     (λ c. search needs)
-    (λ c. search bytes-cases))
+    (λ c. search plain-cases))

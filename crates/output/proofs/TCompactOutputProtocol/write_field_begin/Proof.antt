@@ -13,7 +13,7 @@ write-field-begin-spec =
     (λ c. search field-cases)
     (λ c κs. search needs)
     (λ c. search field-cases)
-    (λ c κs. search field-cases)
+    (λ c κs. search needs)
     (λ c κs. search needs)
     (λ c. search needs)
     (λ c. search field-cases))

@@ -7,7 +7,6 @@ pub id-no-spec : {M : Type 1} → statement M
 id-no-spec =
     tie.close
     (tie.spec
-    (λ c. search ids)
     (λ c κs. search needs)
     (λ c. search needs)
     (λ c. search ids))

@@ -7,15 +7,16 @@ pub reader-of-spec : {M : Type 1} → statement M
 reader-of-spec =
     tie.close
     (tie.spec
+    (λ c κs. search needs)
+    (λ c κs. search needs)
+    (λ c. search readers)
     (λ c. search needs)
-    (λ c. search needs)
-    (λ c. search needs)
-    (λ c. search needs)
-    (λ c. search needs)
+    (λ c κs. search needs)
+    (λ c κs. search needs)
+    (λ c. search readers)
     (λ c. search needs)
     (λ c. search needs)
     (λ c κs. search needs)
-    (λ c. search readers)
     (λ c κs. search needs)
     (λ c κs. search needs)
     (λ c. search readers))

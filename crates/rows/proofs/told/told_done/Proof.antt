@@ -1,5 +1,5 @@
 use borrow.Author.Needs.{needs}
-use Rattle.rows.proofs.Found.{done-told}
+use Rattle.rows.proofs.Ids.{done-told}
 use Rattle.rows.proofs.told.told_done.Statement.{statement}
 use Rattle.rows.proofs.told.told_done.Tie as tie
 
