@@ -44,6 +44,7 @@ use Rattle.output.specs.declared.AwaitedField.the-variants as A
 use Rattle.output.proofs.Cases.{refusing, keeping, writing, putting, noting, untouched, int-is, byte-is, items-is, pairs-is}
 use Rattle.rows.specs.Row.{lastIn, limitsOf, writerTop, writerIn, fieldOf, fieldNo, writerOf, writerAfter, wroteNumber, wroteRow, headedRow}
 use Rattle.rows.specs.Writes.{Kept, Made, wrongCall, isNone, fieldBy, fieldOfType, itemsBy, itemsOfType, pairsBy, pairsOfTypes, messageBy, messageOfType}
+use Rattle.rows.proofs.Cases.{writer-left}
 use Rattle.rows.proofs.Gate.{Open, Waiting, held, writer-gate, writer-opens, writer-order, writer-is, writer-free, writer-moves, writer-heads, writer-stays, writer-awaits, row-headed}
 
 or-first : (a b : ℕ) → (a ≡ 0 → ⊥) → a ≡ orElse a b
@@ -57,9 +58,8 @@ or-second b = refl
 -- a call that is refused n, and one that puts its bytes at the row's place: `f` is the row behind what was written
 module _ (buf row : List ℕ) (w : ℕ) (bs : List ℕ) (next : State) where
   stopped : (n : ℕ) → n ≡ orElse (unsound (length buf) (writerOf row)) w → (n ≡ 0 → ⊥) → Made row row buf buf n (writerOf row) (call w bs next)
-  unfolding writerAfter
   stopped n e h =
-      let k : Kept row row n (refusedBy (writerOf row) n) = record { number = refl; the-row = rw (ne-eqb n 0 h) } in
+      let k : Kept row row n (refusedBy (writerOf row) n) = record { number = refl; the-row = writer-left row n (writerOf row) h } in
       record {
         kept = subst (Kept row row n) (refusing buf (writerOf row) w n e bs next h) k;
         the-buf = keeping buf (writerOf row) w n e bs next h;

@@ -26,9 +26,9 @@ use Rattle.output.specs.Calls.{call, leaves, beginWrong, endWrong}
 use Rattle.output.proofs.Checks as W
 use Rattle.output.proofs.Cases.{refusing, noting}
 use Rattle.input.proofs.Cases.{begin-stopped, begin-deep, begin-well, end-stopped, end-top, end-well}
-use Rattle.rows.specs.Row.{lastIn, noLimits, readerOf, readerAfter, writerOf, writerAfter}
+use Rattle.rows.specs.Row.{lastIn, noLimits, readerOf, readerAfter, writerOf}
 use Rattle.rows.specs.Structs.{skipBy, structReader, structWriter, beginWrites, beginLeaves, endWrites, endLeaves, BegunRead, EndedRead, BegunWrite, EndedWrite}
-use Rattle.rows.proofs.Cases.{reader-left}
+use Rattle.rows.proofs.Cases.{reader-left, writer-left}
 use Rattle.rows.proofs.Gate.{Open, reader-opens, reader-is, reader-stays, reader-enters, reader-leaves, writer-opens, writer-is, writer-enters, writer-leaves}
 use Rattle.host.proofs.Through.{done-through}
 use Rattle.host.proofs.Making.{before, behind}
@@ -122,17 +122,17 @@ module _ (buf row : List ℕ) (ids : List ℤ) where
   module _ (st : O.State) (e : structWriter row ids ≡ st) (n : ℕ) (h : n ≡ 0 → ⊥) where
     module _ (f : n ≡ O.orElse (O.unsound (length buf) st) (O.inTurn st (beginWrong st))) where
       begin-stops : BegunWrite row row ids ids n (structWriter row ids) (beginWrites buf (structWriter row ids))
-      unfolding beginWrites writerAfter
+      unfolding beginWrites
       begin-stops =
           rw (e, ← (refusing buf st (O.inTurn st (beginWrong st)) n f [] (O.entered st) h))
-          (record { kept = record { number = refl; the-row = rw (ne-eqb n 0 h) }; the-ids = refl })
+          (record { kept = record { number = refl; the-row = writer-left row n st h }; the-ids = refl })
 
     module _ (f : n ≡ O.orElse (O.unsound (length buf) st) (O.inTurn st (endWrong st))) where
       end-stops : EndedWrite row row ids n (endWrites buf (structWriter row ids))
-      unfolding endWrites writerAfter
+      unfolding endWrites
       end-stops =
           rw (e, ← (refusing buf st (O.inTurn st (endWrong st)) n f [] (O.ended st) h))
-          (record { number = refl; the-row = rw (ne-eqb n 0 h) })
+          (record { number = refl; the-row = writer-left row n st h })
 
   module _ (h : length ids ≡ 64 → ⊥) where
     without : structWriter row ids ≡ O.begun noLimits

@@ -20,9 +20,10 @@ use Rattle.numbers.specs.declared.Wrote.{Wrote}
 use Rattle.numbers.specs.declared.Wrote.the-variants as P
 use Rattle.heads.specs.Answers.{place, idOf}
 use Rattle.input.specs.State as I
+use Rattle.output.specs.State as O
 use Rattle.input.specs.declared.Awaited.{Awaited}
 use Rattle.input.specs.declared.Awaited.the-variants as W
-use Rattle.rows.specs.Row.{lastIn, waitsIn, turnOf, limitsOf, noLimits, awaitedOf, awaitedNo, readerOf, gateOf, refilled, readerAfter, wroteRow, headedRow}
+use Rattle.rows.specs.Row.{lastIn, waitsIn, turnOf, limitsOf, noLimits, awaitedOf, awaitedNo, readerOf, gateOf, refilled, readerAfter, writerAfter, wroteRow, headedRow}
 
 pub ruleset tests = (le-leb, lt-leb, lt-ltb, le-ltb, eq-eqb, ne-eqb)
 
@@ -186,5 +187,9 @@ module _ (row : List ℕ) (why : ℕ) where
     pub reader-left : (why ≡ 0 → ⊥) → row ≡ readerAfter row why st
     unfolding readerAfter
     reader-left h = rw (ne-eqb why 0 h)
+
+  pub writer-left : (st : O.State) → (why ≡ 0 → ⊥) → row ≡ writerAfter row why st
+  unfolding writerAfter
+  writer-left st h = rw (ne-eqb why 0 h)
 
 pub ruleset keeps = (reader-kept, reader-left, toZ-ofZ, sfits-of)
