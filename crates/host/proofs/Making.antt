@@ -321,14 +321,7 @@ field-typed row row′ buf buf′ r st k t a id b f some other m =
     let c : k ≡ typeCode a = number-is k a (sym b ∙ f) in
     rw (← b, f, ← c, ne-eqb k 0 some, ne-eqb k 1 other) (rw (whole-code k a c) at m)
 
-module _ (c : ℕ) (b : c < 65536) where
-  pub waits-more : Fits w64 (c + 1)
-  waits-more = record { fits = omega arith }
-
-  pub waits-scaled : Fits w64 ((c + 1) * 65536)
-  waits-scaled = record { fits = omega arith }
-
-pub ruleset field-cases = (field-by-barred, field-none, field-untyped, refuses, field-noted, field-typed, header-is, went-headed, waits-more, waits-scaled, waits-on, toZ-ofZ, sfits-of)
+pub ruleset field-cases = (field-by-barred, field-none, field-untyped, refuses, field-noted, field-typed, header-is, went-headed, waits-on, toZ-ofZ, sfits-of)
 
 -- bools: nothing but the state stops them
 no-turn : (n u : ℕ) (a : AwaitedField) → n ≡ orElse u (turn a) → (n ≡ 0 → ⊥) → (n ≡ OUT-OF-TURN → ⊥) → n ≡ orElse u 0
