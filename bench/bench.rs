@@ -6,14 +6,16 @@ use thrift::protocol::*;
 
 const POINTS: i32 = 2000;
 
-fn struct_of_i32() -> Vec<u8> {
-    let mut v: Vec<u8> = (0..1000).flat_map(|i| [0x15, (i % 100) as u8]).collect();
+/// A struct of 1000 fields of one byte, of the type with this code.
+fn struct_of(code: u8) -> Vec<u8> {
+    let mut v: Vec<u8> = (0..1000).flat_map(|i| [0x10 | code, (i % 100) as u8]).collect();
     v.push(0);
     v
 }
 
-fn list_of_i32() -> Vec<u8> {
-    let mut v = vec![0xF5, 0xA0, 0x8D, 0x06];
+/// A list of 100,000 elements of one byte, of the type with this code.
+fn list_of(code: u8) -> Vec<u8> {
+    let mut v = vec![0xF0 | code, 0xA0, 0x8D, 0x06];
     v.extend((0..100_000).map(|i| (i % 100) as u8));
     v
 }
@@ -151,16 +153,18 @@ fn main() {
     assert_eq!(port_reads(&trial).unwrap().to_bits(), crate_reads(&trial).unwrap().to_bits());
     println!("| | crate, µs | port, µs | times as fast |\n|---|---|---|---|");
     for (what, s, p, c) in [
-        ("skip of a struct of 1000 small i32 fields", struct_of_i32(), port::TType::Struct, TType::Struct),
+        ("skip of a struct of 1000 small i32 fields", struct_of(5), port::TType::Struct, TType::Struct),
         ("skip of a trial of 2000 points of 3 doubles", trial.clone(), port::TType::Struct, TType::Struct),
-        ("skip of a list of 100,000 one-byte i32", list_of_i32(), port::TType::List, TType::List),
+        ("skip of a list of 100,000 one-byte i32", list_of(5), port::TType::List, TType::List),
+        ("skip of a struct of 1000 small i16 fields", struct_of(4), port::TType::Struct, TType::Struct),
+        ("skip of a list of 100,000 one-byte i16", list_of(4), port::TType::List, TType::List),
     ] {
         assert_eq!(port::skip(&s, p), Ok(s.len()));
         let a = best(|| drop(black_box(TCompactInputProtocol::new(black_box(&s[..])).skip(c))));
         let b = best(|| drop(black_box(port::skip(black_box(&s), p))));
         line(what, a, b);
     }
-    let many = struct_of_i32();
+    let many = struct_of(5);
     line("picking 3 ids of the struct of 1000 fields", best(|| drop(black_box(crate_picks(black_box(&many))))), best(|| drop(black_box(port_picks(black_box(&many))))));
     line("reading the trial call by call", best(|| drop(black_box(crate_reads(black_box(&trial))))), best(|| drop(black_box(port_reads(black_box(&trial))))));
     line("writing it", best(|| drop(black_box(crate_writes(&mut theirs)))), best(|| drop(black_box(port_writes(&mut buffer)))));

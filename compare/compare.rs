@@ -213,10 +213,81 @@ fn meets_stop_map<P: TInputProtocol>(p: &mut P, t: TType) -> Result<bool, Error>
     }
 }
 
+/// Whether the crate reads a number outside 16 bits at a place, by its call for 32.
+fn is_wide(s: &[u8], at: usize) -> bool {
+    let place = Cell::new(at);
+    TCompactInputProtocol::new(Tap(s, &place)).read_i32().is_ok_and(|n| i16::try_from(n).is_err())
+}
+
+/// Whether the field header at a place has an id of its own, and that is wide.
+fn is_wide_id(s: &[u8], at: usize) -> bool {
+    s.get(at).is_some_and(|b| (1..14).contains(b)) && is_wide(s, at + 1)
+}
+
+/// Reads a value by the crate's own headers: Ok(true) where an i16 or a field's id is wide, before elements of type Stop, the depth limit or anything that the crate refuses.
+fn meets_wide<P: TInputProtocol>(p: &mut P, s: &[u8], at: &Cell<usize>, t: TType, room: u32) -> Result<bool, Error> {
+    let refused = |kind| Error::Protocol(thrift::ProtocolError { kind, message: String::new() });
+    let inner = if matches!(t, TType::List | TType::Set | TType::Map | TType::Struct) { room.checked_sub(1).ok_or_else(|| refused(PK::DepthLimit))? } else { room };
+    let many = |p: &mut P, kinds: &[TType], n: i32| -> Result<bool, Error> {
+        if n > 0 && kinds.contains(&TType::Stop) {
+            return Err(refused(PK::InvalidData));
+        }
+        for _ in 0..n {
+            for t in kinds {
+                if meets_wide(p, s, at, *t, inner)? {
+                    return Ok(true);
+                }
+            }
+        }
+        Ok(false)
+    };
+    match t {
+        TType::Struct => {
+            p.read_struct_begin()?;
+            loop {
+                if is_wide_id(s, at.get()) {
+                    return Ok(true);
+                }
+                let f = p.read_field_begin()?;
+                if f.field_type == TType::Stop {
+                    return p.read_struct_end().map(|_| false);
+                }
+                if meets_wide(p, s, at, f.field_type, inner)? {
+                    return Ok(true);
+                }
+            }
+        }
+        TType::List => p.read_list_begin().and_then(|l| many(p, &[l.element_type], l.size)),
+        TType::Set => p.read_set_begin().and_then(|l| many(p, &[l.element_type], l.size)),
+        TType::Map => p.read_map_begin().and_then(|m| many(p, &[m.key_type.unwrap_or(TType::Stop), m.value_type.unwrap_or(TType::Stop)], m.size)),
+        TType::I16 if is_wide(s, at.get()) => Ok(true),
+        other => p.skip(other).map(|_| false),
+    }
+}
+
+/// Whether a call meets a number of an i16 that is out of its range before anything else is refused: the cause of D28, found by the crate's own reading.
+fn out_of_range(s: &[u8], at: usize, c: Call, limits: port::TConfiguration, depth: u32) -> bool {
+    match c {
+        I16 => is_wide(s, at),
+        Field => is_wide_id(s, at),
+        Skip(t) => {
+            let place = Cell::new(at);
+            let mut p = TCompactInputProtocol::with_config(Tap(s, &place), free(limits));
+            matches!(meets_wide(&mut p, s, &place, TYPES[t].1, limits.depth - depth), Ok(true))
+        }
+        _ => false,
+    }
+}
+
+/// The crate's limits with none on depth.
+fn free(limits: port::TConfiguration) -> thrift::TConfiguration {
+    thrift::TConfiguration::builder().max_frame_size(None).max_message_size(None).max_recursion_depth(None)
+        .max_string_size(Some(limits.string as usize)).max_container_size(Some(limits.container as usize)).build().unwrap()
+}
+
 /// The number of the difference between two answers of a skip that starts at a place, if it is a known one.
 fn skip_difference(s: &[u8], at: usize, limits: port::TConfiguration, t: usize, depth: u32, theirs: &A, ours: &A) -> Option<&'static str> {
-    let free = thrift::TConfiguration::builder().max_frame_size(None).max_message_size(None).max_recursion_depth(None)
-        .max_string_size(Some(limits.string as usize)).max_container_size(Some(limits.container as usize)).build().unwrap();
+    let free = free(limits);
     let place = Cell::new(at);
     let again = |till: i8| {
         let place = Cell::new(at);
@@ -230,7 +301,8 @@ fn skip_difference(s: &[u8], at: usize, limits: port::TConfiguration, t: usize, 
         (_, Err(10)) => {
             let mut wide = port::TCompactInputProtocol::with_config(&s[at..], port::TConfiguration { depth: 64, ..limits });
             let unlimited = wide.skip(TYPES[t].0).map(|_| (V::Unit, at + wide.place())).map_err(|e| e.number());
-            if unlimited == *theirs {
+            let wide = || out_of_range(s, at, Skip(t), port::TConfiguration { depth: 64, ..limits }, 0);
+            if unlimited == *theirs || unlimited == Err(17) && wide() {
                 return Some(if depth > 0 { "D4" } else if limits.depth == 0 { "D2" } else { "D3" });
             }
             let mut p = TCompactInputProtocol::with_config(Tap(s, &place), free);
@@ -255,7 +327,7 @@ struct Tally {
     picked: u64,
     wrote: BTreeMap<&'static str, u64>,
     differences: BTreeMap<&'static str, u64>,
-    refusals: [u64; 17],
+    refusals: [u64; 18],
     failed: u64,
 }
 impl Tally {
@@ -308,8 +380,13 @@ fn reads(t: &mut Tally, s: &[u8], limits: port::TConfiguration, calls: &mut dyn 
                 t.fail(format!("a refusal moved the state: {made:?} on {s:02x?}"));
             }
         }
+        let wide = !pending && out_of_range(s, start, c, limits, depth);
+        if wide != (b == Err(17)) {
+            t.fail(format!("{made:?} limits {limits:?} on {s:02x?}: a number out of range {wide}, port {b:?}"));
+        }
         if a != b {
             let known = match c {
+                _ if wide => Some("D28"),
                 // A bool field's value waits, and another call comes: out of the grammar's order, since the bytes are not what the caller takes them for.
                 Skip(0) if pending && b == Err(12) => Some("D10"),
                 _ if pending && b == Err(12) && c != Bool => Some("D8"),
@@ -663,6 +740,9 @@ fn picks(t: &mut Tally, r: &mut Rng, s: &[u8], limits: port::TConfiguration) {
     let mut skips = port::TCompactInputProtocol::with_config(s, limits);
     let skipped = skips.skip(port::TType::Struct).map_err(|e| e.number());
     t.picked += 1;
+    if out_of_range(s, 0, Skip(11), limits, 0) {
+        if answer == Err(17) { t.difference("D28") } else { t.fail(format!("pick {answer:?} of a number out of range, limits {limits:?} on {s:02x?}")) }
+    }
     if (answer, ours.place()) != (skipped, skips.place()) {
         t.fail(format!("pick {answer:?} where skip is {skipped:?}, limits {limits:?} on {s:02x?}"));
     } else if found[if answer.is_ok() { ids.len() } else { 0 }..].iter().any(|x| *x != port::Picked::Bool(true)) {
@@ -707,6 +787,25 @@ fn main() {
         every_call(&mut t, &[a], WIDE);
         for b in 0..=255 {
             every_call(&mut t, &[a, b], WIDE);
+        }
+    }
+    // numbers of an i16 about the ends of its range, in every length, as a value and as an id, alone and within each container
+    for n in [0u32, 1, 2, 65534, 65535, 65536, 65537, 131_073, 131_074, 1 << 31, u32::MAX - 1, u32::MAX] {
+        for long in 0..6 {
+            for last in [0, 0x10, 0x70] {
+                let mut z: Vec<u8> = (0..5).map(|k| (n >> (7 * k)) as u8 & 0x7f).collect();
+                z.truncate(if long == 5 { 5 } else { (1..6).find(|k| *k >= long && (*k == 5 || n >> (7 * k) == 0)).unwrap() });
+                let end = z.len() - 1;
+                z[..end].iter_mut().for_each(|b| *b |= 0x80);
+                if end == 4 { z[4] |= last }
+                for (head, tail) in [(&[][..], &[][..]), (&[0x14], &[0]), (&[0x24, 2], &[]), (&[1, 0x44], &[2]), (&[1, 0x34, 5], &[])] {
+                    every_call(&mut t, &[head, &z, tail].concat(), WIDE);
+                }
+                for code in 0..16 {
+                    every_call(&mut t, &[&[code], &z[..], &[5, 0, 0]].concat(), WIDE);
+                    every_call(&mut t, &[&[0x1c, code], &z[..], &[5, 0, 0, 0]].concat(), WIDE);
+                }
+            }
         }
     }
     // every id before every first byte of a field, at the bounds

@@ -48,7 +48,8 @@ enum {
     TAGRUMZIL_OUT_OF_TURN = 12,     /* a bool waits for the bool call; or a struct is ended that was not begun */
     TAGRUMZIL_NO_ROOM = 14,         /* the buffer is too short for this call's bytes */
     TAGRUMZIL_BAD_STATE = 15,       /* the rows hold no state; a limit out of its range; a place past the end; a depth over its limit */
-    TAGRUMZIL_BAD_LIST = 16         /* wanted ids and types differ in number, over 64 of them, an id twice, or a type that no field can have */
+    TAGRUMZIL_BAD_LIST = 16,        /* wanted ids and types differ in number, over 64 of them, an id twice, or a type that no field can have */
+    TAGRUMZIL_RANGE = 17            /* an i16, as value or field id, outside -32768 to 32767 */
 };
 
 /* A new state under these limits. */
@@ -64,7 +65,7 @@ static inline void tagrumzil_row(uint64_t row[TAGRUMZIL_ROW], uint64_t depth, ui
 /* A varint of 32 bits, and of 64, at a place. Longer forms than needed are read; bits past the width are dropped. END, LONG_VARINT. */
 uint8_t tagrumzil_varint32(const uint8_t *s, size_t n, size_t at, uint32_t *value, size_t *end);
 uint8_t tagrumzil_varint64(const uint8_t *s, size_t n, size_t at, uint64_t *value, size_t *end);
-/* An i16: the low 16 bits of a 32-bit zigzag number. */
+/* An i16: a 32-bit zigzag number, TAGRUMZIL_RANGE where it is outside -32768 to 32767. */
 uint8_t tagrumzil_i16(const uint8_t *s, size_t n, size_t at, int16_t *value, size_t *end);
 /* The bits of eight bytes, lowest first. */
 uint8_t tagrumzil_le64(const uint8_t *s, size_t n, size_t at, uint64_t *value, size_t *end);

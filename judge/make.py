@@ -4,7 +4,7 @@
 Makes the cases of crates/vectors and their answers anew: its files stdin and stdout. No answer comes from the port.
 CRATE_SRC is the folder of the Rust crate's sources (with lib.rs), HARNESS the folder of the harness over it (build.sh, oracle.rs), PUBLISHED the file of
 the published tests of thrift 0.24.0's compact protocol (the `mod tests` of its compact.rs), WORK a folder to build in (a temporary one where it is left out;
-what an earlier run built there is used again). Needs rustc, and as and objcopy of GNU binutils. rows.py has the rows of calls.
+what an earlier run built there is used again). Needs rustc, and as and objcopy of GNU binutils. rows.py has the rows of calls, rules.py the rules that the crate does not have.
 Where two judges have a word on a case they must agree; the run stops where they don't.
 """
 import os
@@ -17,6 +17,7 @@ import tempfile
 sys.dont_write_bytecode = True
 import published
 import rows
+import rules
 
 HERE = os.path.dirname(os.path.abspath(__file__))
 CRATE = os.path.join(HERE, os.pardir, 'crates', 'vectors')
@@ -221,7 +222,7 @@ def read_cases():
         rows = [rows for title, rows in varint_rows(wide) if title.startswith(('the last', 'every', 'cut'))]
         yield f'{kind}: the last byte, every top bit set, cut short', [(kind, row, 0) for part in rows for row in part]
     beyond = [n for n in around(1 << 15, 1 << 16, 1 << 17, 1 << 30) for n in (n, -n)] + [(1 << 31) - 1, -(1 << 31)]
-    yield 'i16: numbers of more than 16 bits keep the low 16', [('i16', uleb(zigzag(n)), 0) for n in beyond]
+    yield 'i16: numbers of more than 16 bits (the crate keeps the low 16)', [('i16', uleb(zigzag(n)), 0) for n in beyond]
     yield 'the sample bytes of table T, 1 to 4', [
         (kind, bytes.fromhex(row), 0) for kind, row in (
             ('i32', '00'), ('i32', '01'), ('i32', '02'), ('i16', 'ffff03'), ('i32', 'ffffffff0f'), ('i32', 'ffffffff7f'),
@@ -340,6 +341,8 @@ def read_answers(judges):
                 answer = f'refused {own}'
             else:
                 answer = f'{own[0]:016x} {own[1]}' if kind == 'double' else f'{own[0]} {own[1]}'
+            comment, answer = ruled(data, (kind,), [(at, answer)])
+            yield from comment
             yield f'read {kind} {tidy(data)}' + (f' {at}' if at else ''), answer
 
 
@@ -453,7 +456,7 @@ def said(name, words):
 
 
 def field_answers(judges, rows):
-    """Two fields in a row, a bool's value taken behind its header: asked of the crate in as many steps."""
+    """Two fields in a row, a bool's value taken behind its header: asked of the crate in as many steps. (place, answer) of each header."""
     first = judges.words([(row, ['field']) for row in rows])
     is_bool = lambda w: w.rsplit('@', 1)[0].endswith(',bool')
     goes = lambda w: not w.startswith('!') and not w.startswith('stop')
@@ -462,24 +465,37 @@ def field_answers(judges, rows):
     third = iter(second)
     out = []
     for row, w in zip(rows, first):
-        line = said('field', w)
+        line, parts = said('field', w), []
         if goes(w):
             told = next(third)
             if is_bool(w):
                 line += ' yes' if told[1].startswith('true') else ' no'
-            line += ' ' + said('field', told[-1])
+            parts, line = [(0, line)], said('field', told[-1])
             if is_bool(told[-1]):
                 again = judges.words([(row, (['field', 'bool'] if is_bool(w) else ['field']) + ['field', 'bool'])])[0]
                 line += ' yes' if again.startswith('true') else ' no'
-        out.append(line)
+        out.append(parts + [(int(w.rsplit('@', 1)[1]) if parts else 0, line)])
     return out
+
+
+def ruled(row, call, parts):
+    """(place, answer) of the calls in a row, by the crate: the case's answer with the scope's own rules on top, and before it the crate's where such a rule decides."""
+    answer, kept = ' '.join(answer for _, answer in parts), []
+    for at, each in parts:
+        rule = rules.broken(row, at, call, rows.WIDE)
+        if rule:
+            return [(f'# {rule.difference}, the crate: {answer}', None)], ' '.join(kept + [f'refused {rule.why}'])
+        kept.append(each)
+    return [], answer
 
 
 def call_answers(judges):
     for title, name, rows in call_rows():
         yield '# call ' + title, None
-        told = field_answers(judges, rows) if name == 'field' else [said(name, w) for w in judges.words([(row, [name]) for row in rows])]
-        for row, answer in zip(rows, told):
+        told = field_answers(judges, rows) if name == 'field' else [[(0, said(name, w))] for w in judges.words([(row, [name]) for row in rows])]
+        for row, parts in zip(rows, told):
+            comment, answer = ruled(row, (name,), parts)
+            yield from comment
             yield f'call {name} {tidy(row)}', answer
 
 
@@ -518,7 +534,9 @@ def skip_answers(judges):
         told = judges.words([(row, ['skip:' + name]) for name, row in rows])
         yield '# skip ' + title, None
         for (name, row), w in zip(rows, told):
-            yield f'skip {TYPES[name]} {tidy(row)}', f'refused {int(w[1:])}' if w.startswith('!') else w.rsplit('@', 1)[1]
+            comment, answer = ruled(row, ('skip', TYPES[name]), [(0, f'refused {int(w[1:])}' if w.startswith('!') else w.rsplit('@', 1)[1])])
+            yield from comment
+            yield f'skip {TYPES[name]} {tidy(row)}', answer
 
 
 def reader_answers(judges, tests):
@@ -550,6 +568,7 @@ def main():
         tests = published.Published(sys.argv[3])
         parts = (read_answers, write_answers, utf8_answers, call_answers, skip_answers)
         write([line for part in parts for line in part(judges)] + list(reader_answers(judges, tests)) + writer_answers(judges, tests))
+        print(f'refused by rules that the crate does not have: {rules.checked(judges.crate, judges.row_words)}')
     print(f'published tests: {tests.count}, with rows: {tests.count - len(tests.none)}')
 
 

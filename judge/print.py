@@ -4,13 +4,17 @@
 Makes the messages of crates/print_cases and what the crate's own reader prints of them anew: its files stdin and stdout. No answer comes from the port.
 CRATE_SRC is the folder of the Rust crate's sources (with lib.rs), HARNESS the folder of the harness over it (build.sh, oracle.rs), WORK a folder to build
 in (a temporary one where it is left out; what an earlier run built there is used again). Both builds of the crate must agree, or nothing is written.
-Headers, values and their refusals are the crate's; the nesting at the limit and the refusal of Stop elements are counted by the harness.
+Headers, values and their refusals are the crate's; the nesting at the limit and the refusal of Stop elements are counted by the harness. Where a rule is broken that the
+crate does not have (rules.py), the lines up to there are the crate's for the bytes before, and the message's title says what the crate prints instead.
 """
 import os
 import struct
 import subprocess
 import sys
 import tempfile
+
+sys.dont_write_bytecode = True
+import rules
 
 CRATE = os.path.join(os.path.dirname(os.path.abspath(__file__)), os.pardir, 'crates', 'print_cases')
 
@@ -58,7 +62,13 @@ def cases():
     yield 'bool fields', body(hexes('111200'))
     for code, data in ((3, b'\x80'), (3, b'\x7f'), (4, zigzag(-32768)), (4, zigzag(32767)), (5, zigzag(-2 ** 31)), (5, zigzag(2 ** 31 - 1)), (6, zigzag(-2 ** 63)), (6, zigzag(2 ** 63 - 1)), (5, b'\0')):
         yield f'a number of type {code}', body(bytes([0x10 + code]) + data + b'\0')
-    yield 'an i16 of which the low bits are kept', body(hexes('1480800400'))
+    yield '17: an i16 of 32,768', body(hexes('1480800400'))
+    yield '17: an i16 of -32,769, in a list', body(hexes('19240281800400'))
+    yield '17: the id 65,537', body(hexes('11058280080200'))
+    yield '17: the id 65,537 of a bool', body(hexes('0182800800'))
+    yield '17: the id 65,537 in an inner struct', body(hexes('1c1302038280080500'))
+    yield '17: an i16 key of 65,537', body(hexes('1b01438280080100'))
+    yield 'an i16 of 1 whose last byte drops bits', body(hexes('14828080807000'))
     for bits, name in ((0x3ff0 << 48, '1.0'), (1 << 63, '-0.0'), (0x7ff8_0000_dead_beef, 'a NaN with a payload'), (0xfff0_0000_0000_0001, 'a signalling NaN, negative'), (0x7ff0 << 48, 'infinity'), (0xfff0 << 48, '-infinity'), (1, 'the least above 0'), (2 ** 64 - 1, 'all bits')):
         yield f'double {name}', body(b'\x17' + double(bits) + b'\0')
     yield 'a string', body(b'\x18\x05hello\0')
@@ -120,6 +130,17 @@ def cases():
     yield '14: 65,537 bytes', long + b'\0' * (65537 - len(long))
 
 
+LIMITS = (64, 65536, 65536)
+
+
+def crate_prints(work, data):
+    """The crate's lines, in both builds."""
+    words = [subprocess.run([os.path.join(work, build), 'print'], input=data, capture_output=True, check=True).stdout for build in ('oracle', 'oracle-chk')]
+    if words[0] != words[1]:
+        sys.exit(f'the builds differ at {data.hex()}')
+    return words[0].decode().splitlines()
+
+
 def main():
     source, harness = sys.argv[1:3]
     work = sys.argv[3] if len(sys.argv) > 3 else tempfile.mkdtemp()
@@ -127,14 +148,18 @@ def main():
         subprocess.run(['sh', os.path.join(harness, 'build.sh'), source, work], check=True, stdout=subprocess.DEVNULL)
     frames, told = b'', b''
     for name, data in cases():
+        wanted, lines = name.split(':')[0], crate_prints(work, data)
+        rule = rules.broken(data, 0, ('print',), LIMITS)
+        if rule:
+            before = crate_prints(work, data[:rule.begins])
+            if before.pop() != 'refused 1' or lines[:len(before)] != before:
+                sys.exit(f'{name}: the crate refuses before the rule does')
+            name += f' ({rule.difference}, the crate: {lines[len(before)]})'
+            lines = before + [f'refused {rule.why}']
+        if wanted.isdigit() and lines[-1] != 'refused ' + wanted:
+            sys.exit(f'{name}: {lines[-1]}')
         line = f'{len(data):05} {name}\n'.encode()
-        words = [subprocess.run([os.path.join(work, build), 'print'], input=data, capture_output=True, check=True).stdout for build in ('oracle', 'oracle-chk')]
-        if words[0] != words[1]:
-            sys.exit(f'the builds differ at {name}')
-        last = words[0].splitlines()[-1].decode()
-        if name[0].isdigit() and ':' in name and last != 'refused ' + name.split(':')[0]:
-            sys.exit(f'{name}: {last}')
-        frames, told = frames + line + data, told + line + words[0]
+        frames, told = frames + line + data, told + line + ''.join(each + '\n' for each in lines).encode()
     for file, what in (('stdin', frames), ('stdout', told)):
         with open(os.path.join(CRATE, file), 'wb') as f:
             f.write(what)

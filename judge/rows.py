@@ -8,6 +8,8 @@ refusal of its writer but 10: of the others the number is the rules' alone. What
 import random
 import struct
 
+import rules
+
 NUMBERS = {'stop': 0, 'bool': 1, 'i8': 3, 'i16': 4, 'i32': 5, 'i64': 6, 'double': 7, 'string': 8, 'list': 9, 'set': 10, 'map': 11, 'struct': 12, 'uuid': 13}
 NAMES = {n: name for name, n in NUMBERS.items()}
 KINDS = [n for n in NAMES if n != 0]
@@ -413,10 +415,10 @@ def compare(row, told, made, clean, whole):
 
 class Read:
     """`refused` has what the rules refuse and the crate does not: the number by the call's index; `ruled` the rules' answer where they accept and the crate does not. A published test has a name, and the values that it wants,
-    without places, or the refusals of which its last call gives one."""
+    without places, or the refusals of which its last call gives one. `rule` is the comment where one is broken that the crate does not have (rules.py)."""
 
     def __init__(self, data, calls, limits=WIDE, number=None, published=None, refused=None, wanted=None, kinds=None, ruled=None):
-        self.ruled = ruled or {}
+        self.ruled, self.rule = ruled or {}, None
         self.data, self.calls, self.limits, self.number, self.published = data, list(calls), limits, number, published
         self.refused, self.answers, self.wanted, self.kinds = dict(refused or {}), {}, wanted, kinds
 
@@ -466,9 +468,31 @@ def reader_rows():
     yield 'a refused call leaves the state: D12', [Read(bytes.fromhex(h), calls) for h, calls in (
         ('01', [('field',), ('i8',), ('list',)]), ('05feff0311', [('field',), ('field',), ('i8',)]), ('85', [('field',), ('i16',), ('bool',), ('i8',)]),
         ('ff', [('list',), ('bool',), ('i8',)]), ('05ffffffffff', [('string',), ('bytes',), ('field',), ('i8',)]), ('0e02', [('field',), ('list',)]))]
+    yield from range_rows()
     yield 'a limit that is out of range, on every call (the crate takes it: D13)', [
         Read(b'\x15\x02', [c], limits=limits, number='-', refused={0: BAD_STATE})
         for limits in ((65, 0, 0), (64, MOST + 1, 0), (64, 0, MOST + 1), (1 << 63, 4294967295, 0)) for c in others + [('bool',), ('end',), ('skip', 5), ('skip', 0)]]
+
+
+def range_rows():
+    """(title, rows): numbers of an i16, as value and as field id, about the ends of its range. 65,537 is 82 80 08, 32,768 is 80 80 04."""
+    wide, least = bytes.fromhex('828008'), bytes.fromhex('808004')
+    yield 'an i16 out of range: 65,537, 32,768, -32,769, the least of 32 bits; and the ends of the range', [
+        Read(bytes.fromhex(h), [('i16',), ('i32',)]) for h in ('828008', '808004', '818004', 'ffffffff0f', 'feff03', 'ffff03')]
+    yield 'an i16 that is cut short or too long has no range; what the fifth byte drops, and longer forms, have no say', [
+        Read(bytes.fromhex(h), [('i16',), ('i8',)]) for h in ('8280', '8080808080', 'ffffffffff', '8280808070', '828080801f', '8280808000', '80808400')]
+    yield 'a field id out of range: the state is as it was, and no bool is pending', [
+        Read(bytes([code]) + wide + tail, [('field',), after, ('field',)]) for code in (5, 1, 2, 12) for tail in (b'', bytes(2)) for after in (('i8',), ('skip', 1), ('skip', 12))]
+    yield 'a field id out of range: a code without a type comes first', [Read(bytes([code]) + wide, [('field',), ('i8',)]) for code in (14, 15, 0)]
+    yield 'skip: an i16 out of range', [Read(data, [('skip', kind), ('i8',)]) for kind, data in (
+        (4, least), (4, wide), (9, b'\x14' + least), (9, b'\x24\x02' + wide), (10, b'\x14' + least),
+        (11, b'\x01\x44' + least + b'\x00'), (11, b'\x01\x84\x01x' + least), (12, b'\x14' + least + b'\x00'))]
+    yield 'skip: a field id out of range, a bool\'s too', [Read(data, [('skip', 12), ('i8',)]) for data in (
+        b'\x03' + wide + b'\x05\x00', b'\x01' + wide + b'\x00', b'\x02' + wide + b'\x00', b'\x1c\x01' + wide + bytes(2), b'\x14\x02\x19\x14' + least + b'\x00')]
+    yield 'skip: an i16 out of range, and another refusal before or behind it', [Read(data, [('skip', 12), ('i8',)]) for data in (
+        b'\x15\x02\x14' + least, b'\x1e\x14' + least, b'\x14' + least + b'\x1e', b'\x04' + b'\xff' * 5, b'\x0e' + wide)] + [
+        Read(data, [('skip', 12), ('i8',)], limits=limits) for data, limits in (
+            (b'\x14' + least + b'\x18\x02ab\x00', (2, 1, MOST)), (b'\x18\x02ab\x14' + least + b'\x00', (2, 1, MOST)), (b'\x19\x24\x02' + least, (2, 1, 1)))]
 
 
 def skip_rows():
@@ -519,16 +543,24 @@ def reader_answers(judges, groups):
         for row, both in zip(live, judges.row_words([row.ask(row.refused | row.ruled) for row in live])):
             told = agree(row.calls, *[w.split(' ; ')[0] for w in both]).split()
             indices = [k for k in range(len(row.calls)) if k not in row.refused | row.ruled]
-            pending = False
+            pending, place, depth = False, 0, 0
             for k, words in zip(indices, [] if told == ['#'] else told):
                 call = row.calls[k]
                 # By the rules these are out of turn; the crate goes on, or panics.
                 wrong = 'D8' if pending and call not in (('bool',), ('skip', 1)) else 'D11' if words == '!panic' and call == ('end',) else None
+                rule = None if pending else rules.broken(row.data, place, call, (row.limits[0] - depth,) + row.limits[1:])
+                if rule:
+                    agree(row.calls, row.number, None)
+                    before = ', without the calls refused before' if row.refused else ''
+                    row.rule = row.rule or f'{rule.difference}, the crate{before}: ' + in_short(both)
+                    row.refused[k], row.answers[k] = rule.why, f'refused {rule.why}'
+                    break
                 if wrong or words.startswith('!'):
                     row.refused[k] = OUT_OF_TURN if wrong else int(words[1:])
                     row.answers[k] = f'refused {row.refused[k]}'
                     break
                 row.answers[k] = spoken(call, words)
+                place, depth = int(words.rsplit('@', 1)[1]), depth + {'begin': 1, 'end': -1}.get(call[0], 0)
                 pending = call == ('field',) and words.split('@')[0].endswith(',bool')
             if len(row.answers) < len(row.calls):
                 again.append(row)
@@ -540,6 +572,8 @@ def reader_answers(judges, groups):
                 yield f'# published: {row.published}', None
             if row.number not in (None, '-'):
                 yield f'# {row.number}, the crate: ' + in_short(whole[id(row)]), None
+            if row.rule:
+                yield f'# {row.rule}', None
             answers = [row.answers[k] for k in range(len(row.calls))]
             if row.wanted is not None:
                 agree(row.published, row.wanted, [a.rsplit(' ', 1)[0] for c, a in zip(row.calls, answers) if c[0] not in ('begin', 'end') and not a.startswith('stop')])

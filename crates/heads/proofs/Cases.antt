@@ -16,7 +16,7 @@ use lib.IntN.{ℤ}
 use mir.Syntax.{w8, w32, w64}
 use mir.Val.{toZ, Fits}
 use mir.Facts.{toZ-ofZ}
-use Rattle.types.specs.Refusals.{END, BAD-VERSION, BAD-TYPE, BAD-BOOL, SIZE-LIMIT, NEGATIVE-SIZE, BAD-UTF8}
+use Rattle.types.specs.Refusals.{END, BAD-VERSION, BAD-TYPE, BAD-BOOL, SIZE-LIMIT, NEGATIVE-SIZE, BAD-UTF8, RANGE}
 use Rattle.types.specs.Codes.{elementType, messageByNumber}
 use Rattle.types.specs.declared.TType.{TType}
 use Rattle.types.specs.declared.TType.the-variants as T
@@ -28,7 +28,7 @@ use Rattle.types.specs.declared.MessageTypeRead.{MessageTypeRead}
 use Rattle.types.specs.declared.MessageTypeRead.the-variants as MR
 use Rattle.types.specs.declared.TConfiguration.{TConfiguration}
 use Rattle.numbers.specs.Varint.{Found, got, refused, placed, varint, varintAt}
-use Rattle.zigzag.specs.Zigzag.{unzigzag}
+use Rattle.zigzag.specs.Zigzag.{unzigzag, inRange16}
 use Rattle.numbers.specs.Fixed.{little}
 use Rattle.numbers.specs.Answers.{as32, as64, as16, asBits, signed16, varint32At, varint64At, signed16At, littleAt, bits64At}
 use Rattle.numbers.specs.declared.Varint32.{Varint32}
@@ -42,7 +42,7 @@ use Rattle.numbers.specs.declared.Bits64.the-variants as B64
 use Rattle.numbers.proofs.Got.{found32, found64, within32}
 use Rattle.numbers.proofs.Found.{take-drop, within}
 use Rattle.utf8.specs.Utf8.{utf8}
-use Rattle.heads.specs.Reader.{Reader, done, refuse, andThen, provided, byte, some, readAt}
+use Rattle.heads.specs.Reader.{Reader, done, refuse, onward, andThen, provided, byte, some, readAt}
 use Rattle.heads.specs.Heads.{int8, number32, number64, int16, int32, int64, double, uuid, truth, binary, text, typed, counted, listed, items, mapped, pairs, Message, messageTyped, named, versioned, message}
 use Rattle.heads.specs.Answers.{place, seqOf, toI8, int8At, toI16, int16At, toI32, int32At, toI64, int64At, toDouble, doubleAt, toBool, truthAt, toPart, someAt, uuidAt, binaryAt, textAt, whyOf, countWhy, toList, listedAt, itemsAt, toMap, mappedAt, pairsAt, toMessage, namedAt, kindAt, messageAt}
 use Rattle.heads.specs.declared.I8Read.the-variants as I8
@@ -127,9 +127,22 @@ module _ (s : List ℕ) (at : ℕ) (r : Varint64) (e : r ≡ varint64At s at) wh
 pub ruleset i64-cases = (i64-got, i64-refused, toZ-ofZ, sfits-of)
 
 -- read_i16
-placed-16 : (at : ℕ) (x : Found ℕ) → placed at (signed16 x) ≡ signed16 (placed at x)
-placed-16 at (got v n) = refl
-placed-16 at (refused why) = refl
+-- as a reader, and as numbers has it
+ranged : (at : ℕ) (z : ℤ) (n : ℕ) (bs : List ℕ) → placed at (placed n (provided (inRange16 z) RANGE (done z) bs)) ≡ cond (inRange16 z) (got z (at + n)) (refused RANGE)
+unfolding provided done
+ranged at z n bs = go (inRange16 z)
+  where
+    go : (b : Bool) → placed at (placed n (cond b (got z 0) (refused RANGE))) ≡ cond b (got z (at + n)) (refused RANGE)
+    go true = ap (got z) (omega arith)
+    go false = refl
+
+placed-16 : (at : ℕ) (bs : List ℕ) → placed at (int16 bs) ≡ signed16 (placed at (varint 32 5 bs))
+unfolding int16 int32 andThen done number32
+placed-16 at bs = go (varint 32 5 bs)
+  where
+    go : (x : Found ℕ) → placed at (onward (λ z. provided (inRange16 z) RANGE (done z)) bs (onward (λ n. done (unzigzag n)) bs x)) ≡ signed16 (placed at x)
+    go (got v n) = ranged at (unzigzag v) (n + 0) (drop (n + 0) bs) ∙ ap (λ (m : ℕ). signed16 (got v m)) (omega arith)
+    go (refused why) = refl
 
 is16 : (x : Found ℤ) (z : ℤ) (p : ℕ) → as16 x ≡ N16.Got z p → x ≡ got z p
 is16 (got y q) z p e = cc
@@ -141,12 +154,12 @@ not16 (refused u) why e = cc
 
 module _ (s : List ℕ) (at : ℕ) (r : Int16) (e : r ≡ signed16At s at) where
   pub is-16 : (z : ℤ) (p : ℕ) → r ≡ N16.Got z p → readAt int16 s at ≡ got z p
-  unfolding readAt int16 signed16At
-  is-16 z p g = placed-16 at (varint 32 5 (drop at s)) ∙ is16 (signed16 (varintAt 32 5 s at)) z p (sym e ∙ g)
+  unfolding readAt signed16At
+  is-16 z p g = placed-16 at (drop at s) ∙ is16 (signed16 (varintAt 32 5 s at)) z p (sym e ∙ g)
 
   pub no-16 : (why : ℕ) → r ≡ N16.Refused why → readAt int16 s at ≡ refused why
-  unfolding readAt int16 signed16At
-  no-16 why g = placed-16 at (varint 32 5 (drop at s)) ∙ not16 (signed16 (varintAt 32 5 s at)) why (sym e ∙ g)
+  unfolding readAt signed16At
+  no-16 why g = placed-16 at (drop at s) ∙ not16 (signed16 (varintAt 32 5 s at)) why (sym e ∙ g)
 
   pub i16-got : (z : ℤ) (p : ℕ) → r ≡ N16.Got z p → I16.Got z (place p) ≡ int16At s at
   unfolding int16At

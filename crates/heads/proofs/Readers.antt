@@ -1,5 +1,5 @@
 -- Every reader of a scalar and of a header is lawful, and takes at least a byte. Assumes nothing.
-use mathlib.Core.Path.{_≡_, refl, sym, ap, _∙_}
+use mathlib.Core.Path.{_≡_, refl, sym, ap, ap₂, subst, _∙_}
 use mathlib.Core.Bool.{Bool, true, false, cond}
 use mathlib.Core.List.{List, [], _∷_, _++_}
 use Prim.Native.Nat.{ℕ, _+_, _/_, _%_, _≤_, _<_}
@@ -9,6 +9,7 @@ use lib.IntN.{ℤ, pos, _+ℤ_}
 use lib.Signed.{ltZ}
 use lib.ListN.{length, take}
 use lib.Seq.{take-append-le, take-take, length-take-le, take-at}
+use Rattle.types.specs.Refusals.{RANGE}
 use Rattle.types.specs.Codes.{elementType, fieldType, messageByNumber}
 use Rattle.types.specs.declared.TType.{TType}
 use Rattle.types.specs.declared.TypeRead.{TypeRead}
@@ -20,11 +21,11 @@ use Rattle.types.specs.declared.MessageTypeRead.{MessageTypeRead}
 use Rattle.types.specs.declared.MessageTypeRead.the-variants as MR
 use Rattle.types.specs.declared.TConfiguration.{TConfiguration}
 use Rattle.numbers.specs.Varint.{Found, got, refused, groups, keep, varint}
-use Rattle.numbers.specs.Answers.{signed16}
+use Rattle.zigzag.specs.Zigzag.{unzigzag, inRange16}
 use Rattle.numbers.proofs.Found.{took, local}
 use Rattle.heads.specs.Reader.{Reader, done, refuse, andThen, provided, byte, some}
 use Rattle.heads.specs.Heads.{int8, number32, number64, int16, int32, int64, double, uuid, truth, binary, text, typed, counted, listed, items, mapped, pairs, fieldId, ofType, field, Field, messageTyped, named, versioned, message}
-use Rattle.heads.proofs.Lawful.{Lawful, Takes, not-both, done-lawful, refuse-lawful, then-lawful, cond-lawful, provided-lawful, byte-lawful, some-lawful, byte-takes, then-takes}
+use Rattle.heads.proofs.Lawful.{Lawful, Takes, Both, both, not-both, done-lawful, refuse-lawful, then-lawful, cond-lawful, provided-lawful, byte-lawful, some-lawful, byte-takes, then-takes}
 
 -- varints
 kept : (w : ℕ) (x : Found ℕ) (v n : ℕ) → keep w x ≡ got v n → (u : ℕ) × (x ≡ got u n)
@@ -88,21 +89,38 @@ pub int64-takes : Takes int64
 unfolding int64
 int64-takes = then-takes _ _ number64-takes
 
-was16 : (x : Found ℕ) (z : ℤ) (n : ℕ) → signed16 x ≡ got z n → (v : ℕ) × (x ≡ got v n)
-was16 (got v m) z n e = (v, ap (got v) (cc))
-was16 (refused why) z n e = not-both e
-
 pub int16-lawful : Lawful int16
 unfolding int16
-int16-lawful =
-    record {
-      ends = λ bs z n e. let f = was16 (varint 32 5 bs) z n e in varint-ends 32 5 bs (f .0) n (f .1);
-      front = λ bs z n e rest. let f = was16 (varint 32 5 bs) z n e in ap signed16 (varint-front 32 5 bs (f .0) n (f .1) rest ∙ sym (f .1)) ∙ e;
-    }
+int16-lawful = then-lawful _ _ int32-lawful (λ z. provided-lawful _ _ _ (done-lawful _))
 
 pub int16-takes : Takes int16
 unfolding int16
-int16-takes bs z n e = let f = was16 (varint 32 5 bs) z n e in varint-takes 32 5 bs (f .0) n (f .1)
+int16-takes = then-takes _ _ int32-takes
+
+-- the varint that an i32 was
+pub record Unzigged (bs : List ℕ) (z : ℤ) (n : ℕ) : Type 0 where
+  pub value : ℕ
+  pub read : number32 bs ≡ got value n
+  pub is : z ≡ unzigzag value
+
+pub was32 : (bs : List ℕ) (z : ℤ) (n : ℕ) → int32 bs ≡ got z n → Unzigged bs z n
+unfolding int32 andThen done
+was32 bs z n e =
+    let f = both (number32 bs) _ bs z n e in
+    let none : f .more ≡ 0 = cc in
+    record { value = f .one; read = f .first ∙ ap (got (f .one)) (omega (arith, f .all)); is = cc }
+
+-- an i16 is an i32 within its range
+pub was16 : (bs : List ℕ) (z : ℤ) (n : ℕ) → int16 bs ≡ got z n → (int32 bs ≡ got z n) × (inRange16 z ≡ true)
+unfolding int16 andThen provided done
+was16 bs z n e = let f = both (int32 bs) _ bs z n e in go f (inRange16 (f .one)) refl (f .second)
+  where
+    go : (f : Both (int32 bs) (λ y. provided (inRange16 y) RANGE (done y)) bs z n) (b : Bool) → inRange16 (f .one) ≡ b → cond b (got (f .one) 0) (refused RANGE) ≡ got z (f .more) → (int32 bs ≡ got z n) × (inRange16 z ≡ true)
+    go f true t g =
+        let none : f .more ≡ 0 = cc in
+        let same : f .one ≡ z = cc in
+        (f .first ∙ ap₂ got same (omega (arith, f .all)), subst (λ (y : ℤ). inRange16 y ≡ true) same t)
+    go f false t g = not-both g
 
 some-takes : (k : ℕ) → 0 < k → Takes (some k)
 unfolding some

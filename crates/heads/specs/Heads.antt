@@ -8,7 +8,7 @@ use lib.IntN.{ℤ, pos, _+ℤ_}
 use lib.Signed.{ltZ}
 use mir.Syntax.{w8, w32}
 use mir.Val.{toZ}
-use Rattle.types.specs.Refusals.{BAD-VERSION, BAD-BOOL, FIELD-ID, SIZE-LIMIT, NEGATIVE-SIZE, BAD-UTF8}
+use Rattle.types.specs.Refusals.{BAD-VERSION, BAD-BOOL, FIELD-ID, SIZE-LIMIT, NEGATIVE-SIZE, BAD-UTF8, RANGE}
 use Rattle.types.specs.Codes.{typeByNumber, elementType, fieldType, messageByNumber}
 use Rattle.types.specs.declared.TType.{TType}
 use Rattle.types.specs.declared.TType.the-variants as T
@@ -21,8 +21,7 @@ use Rattle.types.specs.declared.MessageTypeRead.{MessageTypeRead}
 use Rattle.types.specs.declared.MessageTypeRead.the-variants as MR
 use Rattle.types.specs.declared.TConfiguration.{TConfiguration}
 use Rattle.numbers.specs.Varint.{varint}
-use Rattle.zigzag.specs.Zigzag.{unzigzag}
-use Rattle.numbers.specs.Answers.{signed16}
+use Rattle.zigzag.specs.Zigzag.{unzigzag, inRange16}
 use Rattle.numbers.specs.Fixed.{little}
 use Rattle.utf8.specs.Utf8.{utf8}
 use Rattle.heads.specs.Reader.{Reader, done, refuse, andThen, provided, byte, some}
@@ -45,9 +44,9 @@ int32 = andThen number32 (λ n. done (unzigzag n))
 unfoldable pub int64 : Reader ℤ
 int64 = andThen number64 (λ n. done (unzigzag n))
 
--- "An i16 is read as a 32-bit zigzag number, of which the low 16 bits are kept, signed"
+-- "An i16 is read as a 32-bit zigzag number", and one "outside -32,768 to 32,767" is RANGE
 unfoldable pub int16 : Reader ℤ
-int16 bs = signed16 (varint 32 5 bs)
+int16 = andThen int32 (λ z. provided (inRange16 z) RANGE (done z))
 
 -- "Double: 8 bytes, little-endian, any bits kept"
 unfoldable pub double : Reader ℕ

@@ -40,7 +40,7 @@ pub extern "C" fn tagrumzil_varint64(s: &[u8], at: usize, value: &mut u64, end: 
     }
 }
 
-// An i16 at a place of the input: a 32-bit zigzag number's low 16 bits.
+// An i16 at a place of the input: a 32-bit zigzag number, within the range of 16 bits.
 #[no_mangle]
 pub extern "C" fn tagrumzil_i16(s: &[u8], at: usize, value: &mut i16, end: &mut usize) -> u8
     ensures { λ r. ⌜ Found16 (now (value .entry)) (now (value .exit)) (now (end .entry)) (now (end .exit)) r (signed16At (now (s .entry)) at) ⌝ }

@@ -24,7 +24,7 @@ use Rattle.input.specs.Outcome.{Said, says, refuses, Outcome, answers, d
 use Rattle.input.specs.declared.Awaited.{Awaited}
 use Rattle.input.specs.declared.Awaited.the-variants as W
 use Rattle.input.proofs.Gate.{Sound, is-sound, sound-is, Gated, bad, turn, through, gated}
-use Rattle.input.proofs.Refusals.{Shown, Told, truth-told}
+use Rattle.input.proofs.Refusals.{Shown, shown, Told, truth-told}
 
 pub not-true : {X : Type 0} {b : Bool} → b ≡ false → b ≡ true → X
 not-true f g = let z : _≡_ {A = Bool} false true = sym f ∙ g in let o : _≡_ {A = ℕ} 0 1 = cc in absurd (omega arith)
@@ -117,7 +117,7 @@ module _ {A R : Type 0} (call : List ℕ → State → Outcome A) (late : State 
         go : Way call late s st → sound (length s) st ≡ false
         go (unsound f e) = f
         go (early f l e) = let n = num s st _ e in absurd (omega arith)
-        go (lost f l why w e) = let n = num s st _ e in absurd (omega (arith, w .below))
+        go (lost f l why w e) = absurd (w .stateless (sym (num s st _ e) ∙ z))
         go (well f l a next lo hi b) = let n = num s st _ (b s refl) in absurd (omega arith)
 
     law-bad-back : sound (length s) st ≡ false → number (out (call s st)) ≡ BAD-STATE
@@ -135,7 +135,7 @@ module _ {A R : Type 0} (call : List ℕ → State → Outcome A) (late : State 
         go : Way call late s st → (sound (length s) st ≡ true) × (late st ≡ true)
         go (unsound f e) = let n = num s st _ e in absurd (omega arith)
         go (early f l e) = (f, l)
-        go (lost f l why w e) = let n = num s st _ e in absurd (omega (arith, w .below))
+        go (lost f l why w e) = absurd (w .turnless (sym (num s st _ e) ∙ z))
         go (well f l a next lo hi b) = let n = num s st _ (b s refl) in absurd (omega arith)
 
     law-turn-back : sound (length s) st ≡ true → late st ≡ true → number (out (call s st)) ≡ OUT-OF-TURN
@@ -312,7 +312,7 @@ begin-ways s st = go (gated (length s) st)
     inner q d = sound-is (length s) (entered st) (record { limits = q .limits; here = q .here; deep = omega arith })
 
     deep : sound (length s) st ≡ true → busy st ≡ false → (b : Bool) → leb (st .limits .depth) (st .depth) ≡ b → Way begins busy s st
-    deep f w true d = rests-no entering busy s st f w w DEPTH (record { some = omega arith; below = omega arith }) (rw d)
+    deep f w true d = rests-no entering busy s st f w w DEPTH (shown DEPTH refl) (rw d)
     deep f w false d = rests entering busy s st f w w (entered st) (rw d) refl (inner (is-sound (length s) st f) (leb-false _ _ d))
 
     go : Gated (length s) st → Way begins busy s st

@@ -1,6 +1,5 @@
--- The refusals of the readers of scalars and headers: each has a number from 1 to 11, so that none reads as an answer, as BAD STATE or as
--- OUT OF TURN. Assumes nothing.
-use mathlib.Core.Path.{_≡_, refl, sym, ap, _∙_}
+-- The refusals of the readers of scalars and headers: none reads as an answer, as BAD STATE or as OUT OF TURN. Assumes nothing.
+use mathlib.Core.Path.{_≡_, refl, sym, ap, subst, _∙_}
 use mathlib.Core.Bool.{Bool, true, false, cond}
 use mathlib.Core.List.{List, [], _∷_}
 use mathlib.Core.Logic.{⊎-elim}
@@ -10,7 +9,7 @@ use lib.Dec.{eqb, leb, ltb}
 use lib.IntN.{ℤ, pos, _+ℤ_}
 use lib.Signed.{ltZ}
 use lib.ListN.{length, getD, drop}
-use Rattle.types.specs.Refusals.{END, LONG-VARINT, BAD-TYPE, BAD-MESSAGE-TYPE, OUT-OF-TURN}
+use Rattle.types.specs.Refusals.{END, BAD-VERSION, BAD-MESSAGE-TYPE, BAD-TYPE, BAD-BOOL, LONG-VARINT, FIELD-ID, SIZE-LIMIT, NEGATIVE-SIZE, BAD-UTF8, OUT-OF-TURN, BAD-STATE, RANGE}
 use Rattle.types.specs.Codes.{numbered, typeByNumber, elementType, asField, fieldType, messages, messageByNumber}
 use Rattle.types.specs.declared.TType.{TType}
 use Rattle.types.specs.declared.TType.the-variants as T
@@ -23,23 +22,40 @@ use Rattle.types.specs.declared.MessageTypeRead.{MessageTypeRead}
 use Rattle.types.specs.declared.MessageTypeRead.the-variants as MR
 use Rattle.types.specs.declared.TConfiguration.{TConfiguration}
 use Rattle.numbers.specs.Varint.{Found, got, refused, groups, keep, varint}
-use Rattle.numbers.specs.Answers.{signed16}
 use Rattle.numbers.proofs.Found.{which}
 use Rattle.heads.specs.Reader.{Reader, done, refuse, andThen, provided, byte, some}
 use Rattle.heads.specs.Heads.{int8, number32, number64, int16, int32, int64, double, uuid, truth, binary, text, typed, counted, listed, items, mapped, pairs, fieldId, ofType, field, messageTyped, named, versioned, message}
 use Rattle.heads.proofs.Lawful.{not-both}
 use Rattle.heads.proofs.Steps.{lost-at}
 
--- a refusal of what the input shows
+-- a refusal of what the input shows, or the call's arguments: it is neither of the gate's two numbers
 pub record Shown (why : ℕ) : Type 0 where
   pub some : 0 < why
-  pub below : why < OUT-OF-TURN
+  pub turnless : why ≡ OUT-OF-TURN → ⊥
+  pub stateless : why ≡ BAD-STATE → ⊥
+
+-- for a number that is given, a computed test
+abbrev pub plain : ℕ → Bool
+plain why = cond (eqb why 0) false (cond (eqb why OUT-OF-TURN) false (cond (eqb why BAD-STATE) false true))
+
+pub shown : (why : ℕ) → plain why ≡ true → Shown why
+shown why h = record { some = some why h; turnless = λ e. no (subst plainly e h); stateless = λ e. no (subst plainly e h) }
+  where
+    plainly : ℕ → Type 0
+    plainly n = plain n ≡ true
+
+    no : false ≡ true → ⊥
+    no e = let z : _≡_ {A = ℕ} 0 1 = cc in omega arith
+
+    some : (n : ℕ) → plain n ≡ true → 0 < n
+    some zero e = absurd (no e)
+    some (suc n) e = omega arith
 
 abbrev pub Told : {A : Type 0} → Reader A → Type 0
 Told {A} p = (bs : List ℕ) (why : ℕ) → p bs ≡ refused why → Shown why
 
 as-shown : {A : Type 0} (w why : ℕ) → Shown w → _≡_ {A = Found A} (refused w) (refused why) → Shown why
-as-shown w why h e = let z : w ≡ why = cc in record { some = omega arith; below = omega arith }
+as-shown w why h e = let z : w ≡ why = cc in subst Shown z h
 
 pub done-told : {A : Type 0} (a : A) → Told (done a)
 unfolding done
@@ -71,7 +87,7 @@ provided-told {A} false w p h hp bs why e = as-shown {A = A} w why h e
 
 byte-told : Told byte
 unfolding byte
-byte-told [] why e = as-shown {A = ℕ} END why (record { some = omega arith; below = omega arith }) e
+byte-told [] why e = as-shown {A = ℕ} END why (shown END refl) e
 byte-told (b ∷ bs) why e = not-both (sym e)
 
 some-told : (n : ℕ) → Told (some n)
@@ -80,7 +96,7 @@ some-told n bs why e = go (leb n (length bs)) refl
   where
     go : (t : Bool) → leb n (length bs) ≡ t → Shown why
     go true f = not-both (sym (rw f at e))
-    go false f = as-shown {A = List ℕ} END why (record { some = omega arith; below = omega arith }) (rw f at e)
+    go false f = as-shown {A = List ℕ} END why (shown END refl) (rw f at e)
 
 -- varints
 whole : (w : ℕ) (x : Found ℕ) (why : ℕ) → keep w x ≡ refused why → x ≡ refused why
@@ -90,8 +106,8 @@ whole w (refused u) why e = e
 varint-told : (w k : ℕ) → Told (varint w k)
 varint-told w k bs why e =
     ⊎-elim
-    (λ (z : why ≡ END). record { some = omega arith; below = omega arith })
-    (λ (z : why ≡ LONG-VARINT). record { some = omega arith; below = omega arith })
+    (λ z. subst Shown (sym z) (shown END refl))
+    (λ z. subst Shown (sym z) (shown LONG-VARINT refl))
     (which k bs why (whole w (groups k bs) why e))
 
 number32-told : Told number32
@@ -112,19 +128,13 @@ looked-up P d h [] a n = h
 looked-up P d h (x ∷ l) a zero = a .0
 looked-up P d h (x ∷ l) a (suc n) = looked-up P d h l (a .1) n
 
-shown4 : Shown BAD-TYPE
-shown4 = record { some = omega arith; below = omega arith }
-
-shown3 : Shown BAD-MESSAGE-TYPE
-shown3 = record { some = omega arith; below = omega arith }
-
 abbrev Typed : TypeRead → Type 0
 Typed (R.Got t) = Unit {0}
 Typed (R.Refused w) = Shown w
 
 by-number : (n : ℕ) → Typed (typeByNumber n)
 unfolding typeByNumber
-by-number n = looked-up Typed (R.Refused BAD-TYPE) shown4 numbered (tt, (tt, (shown4, (tt, (tt, (tt, (tt, (tt, (tt, (tt, (tt, (tt, (tt, (tt, tt)))))))))))))) n
+by-number n = let no = shown BAD-TYPE refl in looked-up Typed (R.Refused BAD-TYPE) no numbered (tt, (tt, (no, (tt, (tt, (tt, (tt, (tt, (tt, (tt, (tt, (tt, (tt, (tt, tt)))))))))))))) n
 
 element-typed : (n : ℕ) → Typed (elementType n)
 unfolding elementType
@@ -164,7 +174,7 @@ Called (MR.Refused w) = Shown w
 
 message-called : (n : ℕ) → Called (messageByNumber n)
 unfolding messageByNumber
-message-called n = looked-up Called (MR.Refused BAD-MESSAGE-TYPE) shown3 messages (shown3, (tt, (tt, (tt, (tt, tt))))) n
+message-called n = let no = shown BAD-MESSAGE-TYPE refl in looked-up Called (MR.Refused BAD-MESSAGE-TYPE) no messages (no, (tt, (tt, (tt, (tt, tt))))) n
 
 called-told : (r : MessageTypeRead) → Called r → Told (messageTyped r)
 called-told (MR.Got m) h = done-told m
@@ -175,17 +185,13 @@ pub int8-told : Told int8
 unfolding int8
 int8-told = then-told _ _ byte-told (λ b. done-told _)
 
-was16 : (x : Found ℕ) (why : ℕ) → signed16 x ≡ refused why → x ≡ refused why
-was16 (got v n) why e = not-both (sym e)
-was16 (refused u) why e = let z : u ≡ why = cc in ap refused z
-
-pub int16-told : Told int16
-unfolding int16
-int16-told bs why e = varint-told 32 5 bs why (was16 (varint 32 5 bs) why e)
-
 pub int32-told : Told int32
 unfolding int32
 int32-told = then-told _ _ number32-told (λ n. done-told _)
+
+pub int16-told : Told int16
+unfolding int16
+int16-told = then-told _ _ int32-told (λ z. provided-told _ _ _ (shown RANGE refl) (done-told _))
 
 pub int64-told : Told int64
 unfolding int64
@@ -201,23 +207,23 @@ uuid-told = some-told 16
 
 pub truth-told : Told truth
 unfolding truth
-truth-told = then-told _ _ byte-told (λ b. provided-told _ _ _ (record { some = omega arith; below = omega arith }) (done-told _))
+truth-told = then-told _ _ byte-told (λ b. provided-told _ _ _ (shown BAD-BOOL refl) (done-told _))
 
 -- strings and headers
 module _ (lim : TConfiguration) where
   pub binary-told : Told (binary lim)
   unfolding binary
-  binary-told = then-told _ _ number32-told (λ n. provided-told _ _ _ (record { some = omega arith; below = omega arith }) (some-told n))
+  binary-told = then-told _ _ number32-told (λ n. provided-told _ _ _ (shown SIZE-LIMIT refl) (some-told n))
 
   pub text-told : Told (text lim)
   unfolding text
-  text-told = then-told _ _ binary-told (λ bs. provided-told _ _ _ (record { some = omega arith; below = omega arith }) (done-told _))
+  text-told = then-told _ _ binary-told (λ bs. provided-told _ _ _ (shown BAD-UTF8 refl) (done-told _))
 
   counted-told : (n : ℕ) → Told (counted lim n)
   unfolding counted
   counted-told n =
-      provided-told _ _ _ (record { some = omega arith; below = omega arith })
-      (provided-told _ _ _ (record { some = omega arith; below = omega arith }) (done-told n))
+      provided-told _ _ _ (shown NEGATIVE-SIZE refl)
+      (provided-told _ _ _ (shown SIZE-LIMIT refl) (done-told n))
 
   listed-told : (t : TType) (n : ℕ) → Told (listed lim t n)
   unfolding listed
@@ -250,12 +256,12 @@ module _ (lim : TConfiguration) where
   unfolding versioned
   versioned-told =
       then-told _ _ byte-told
-      (λ b. provided-told _ _ _ (record { some = omega arith; below = omega arith })
+      (λ b. provided-told _ _ _ (shown BAD-VERSION refl)
       (then-told _ _ (called-told (messageByNumber (b / 32)) (message-called (b / 32))) (λ m. named-told m)))
 
   pub message-told : Told (message lim)
   unfolding message
-  message-told = then-told _ _ byte-told (λ b. provided-told _ _ _ (record { some = omega arith; below = omega arith }) versioned-told)
+  message-told = then-told _ _ byte-told (λ b. provided-told _ _ _ (shown BAD-VERSION refl) versioned-told)
 
 -- fields
 module _ (last : ℤ) where
@@ -263,7 +269,7 @@ module _ (last : ℤ) where
   unfolding fieldId
   id-told delta =
       cond-told (eqb delta 0) _ _ int16-told
-      (cond-told (ltZ (pos 32767) (last +ℤ pos delta)) _ _ (refuse-told _ (record { some = omega arith; below = omega arith })) (done-told _))
+      (cond-told (ltZ (pos 32767) (last +ℤ pos delta)) _ _ (refuse-told _ (shown FIELD-ID refl)) (done-told _))
 
   type-told : (delta : ℕ) (r : FieldType) → Kind r → Told (ofType last delta r)
   type-told delta FT.Stop h = done-told _

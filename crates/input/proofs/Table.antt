@@ -4,7 +4,7 @@ use mathlib.Core.Path.{_≡_, refl}
 use mathlib.Core.List.{[], _∷_}
 use Prim.Native.Nat.{ℕ}
 use lib.IntN.{ℤ, pos, negsuc}
-use Rattle.types.specs.Refusals.{END, BAD-TYPE, LONG-VARINT, FIELD-ID, NEGATIVE-SIZE}
+use Rattle.types.specs.Refusals.{END, BAD-TYPE, LONG-VARINT, FIELD-ID, NEGATIVE-SIZE, RANGE}
 use Rattle.types.specs.Codes.{typeByNumber, elementType, fieldType, messageByNumber}
 use Rattle.types.specs.Limits.{inRange, defaults}
 use Rattle.types.specs.declared.TType.the-variants as T
@@ -35,9 +35,9 @@ T3 =
     × (readI32 (0xff ∷ 0xff ∷ 0xff ∷ 0xff ∷ 0xff ∷ []) start ≡ record { answer = I32.Refused LONG-VARINT; state = start })
     × (readI32 (0xff ∷ 0xff ∷ 0xff ∷ 0xff ∷ []) start ≡ record { answer = I32.Refused END; state = start })
 
--- "80 80 04 as i16 gives -32768"
+-- "80 80 04 as i16 is 17"
 abbrev pub T4 : Type 0
-T4 = readI16 (0x80 ∷ 0x80 ∷ 0x04 ∷ []) start ≡ record { answer = I16.Got (negsuc 32767); state = movedTo start (place 3) }
+T4 = readI16 (0x80 ∷ 0x80 ∷ 0x04 ∷ []) start ≡ record { answer = I16.Refused RANGE; state = start }
 
 -- a field of type i32 with this id, whose header ends at this place
 abbrev pub i32Field : State → ℤ → ℕ → ReadField

@@ -13,9 +13,10 @@ use lib.Seq.{sets, length-sets, slice, slice-empty}
 use mir.Syntax.{w8, w16, w32, w64}
 use mir.Val.{toZ, ofZ, Fits}
 use mir.Facts.{toZ-ofZ}
-use Rattle.types.specs.Refusals.{END, NO-ROOM}
+use Rattle.types.specs.Refusals.{END, NO-ROOM, RANGE}
 use Rattle.numbers.specs.Varint.{fewest}
 use Rattle.zigzag.specs.Zigzag.{unzigzag}
+use Rattle.zigzag.proofs.Zig.{range-exact}
 use Rattle.numbers.specs.Fixed.{little, littleOf, four, eight}
 use Rattle.numbers.specs.Answers.{varint32At, signed16At, bits64At, wroteAt, putAt}
 use Rattle.numbers.specs.declared.Varint32.{Varint32}
@@ -34,11 +35,14 @@ module _ (s : List ℕ) (at : ℕ) (r : Varint32) (e : r ≡ varint32At s at) wh
   pub i16-refused : (why : ℕ) → r ≡ V32.Refused why → I16.Refused why ≡ signed16At s at
   i16-refused why g = rw (signed16-is, ← e, g)
 
-  -- z is decoded, b has its bits (z reaches that call through its bits, as y), and q is their low half
-  pub i16-got : (v p b : ℕ) (z y q : ℤ) → r ≡ V32.Got v p → z ≡ unzigzag v → b ≡ ofZ w32 y → y ≡ z → q ≡ toZ w16 (b % 65536) → I16.Got q p ≡ signed16At s at
-  i16-got v p b z y q g d f l h = rw (h, f, l, d, signed16-is, ← e, g)
+  module _ (v p : ℕ) (g : r ≡ V32.Got v p) where
+    pub i16-got : (z : ℤ) → v < 65536 → z ≡ unzigzag v → I16.Got z p ≡ signed16At s at
+    i16-got z h d = rw (d, signed16-is, ← e, g, range-exact v, lt-ltb v 65536 h)
 
-pub ruleset i16-cases = (i16-refused, i16-got, toZ-ofZ, sfits-of)
+    pub i16-range : 65536 ≤ v → I16.Refused RANGE ≡ signed16At s at
+    i16-range h = rw (signed16-is, ← e, g, range-exact v, le-ltb v 65536 h)
+
+pub ruleset i16-cases = (i16-refused, i16-got, i16-range, toZ-ofZ, sfits-of)
 
 -- the test for room
 module _ (have at need : ℕ) where

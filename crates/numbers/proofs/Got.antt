@@ -1,21 +1,19 @@
 -- What the calls' answers tell a caller, from the laws over the width: where a number ends, how large it is, that it is read back, and that
 -- bytes behind it have no say. Assumes nothing.
 use mathlib.Core.Path.{_≡_, refl, sym, ap, _∙_}
+use mathlib.Core.Bool.{Bool, true, false, cond}
 use mathlib.Core.Logic.{_⊎_}
 use mathlib.Core.List.{List, _++_}
 use Prim.Native.Nat.{ℕ, _+_, _^_, _≤_, _<_}
-use native.Mathlib.Nat.{mod-lt}
 use native.Mathlib.Omega.{arith}
 use lib.IntN.{ℤ}
 use lib.ListN.{length, take, drop}
-use lib.Pow.{pow-pos}
 use lib.Seq.{slice}
-use mir.Syntax.{w16, w32}
-use mir.Val.{ofZ, SFits}
-use mir.Facts.{sfits-toZ, fits-of-lt}
-use Rattle.types.specs.Refusals.{END, LONG-VARINT}
+use mir.Syntax.{w16}
+use mir.Val.{SFits}
+use Rattle.types.specs.Refusals.{END, LONG-VARINT, RANGE}
 use Rattle.numbers.specs.Varint.{Found, got, refused, varintAt, fewest}
-use Rattle.zigzag.specs.Zigzag.{zigzag, unzigzag, low16}
+use Rattle.zigzag.specs.Zigzag.{zigzag, unzigzag, inRange16}
 use Rattle.numbers.specs.Fixed.{eight}
 use Rattle.numbers.specs.Answers.{as32, as64, asBits, varint32At, varint64At, signed16At, littleAt, bits64At, putAt}
 use Rattle.numbers.specs.declared.Varint32.{Varint32}
@@ -29,7 +27,7 @@ use Rattle.numbers.specs.declared.Bits64.the-variants as B64
 use Rattle.numbers.proofs.Found.{Bytes, zero-one, Within, within, local-at, which-at}
 use Rattle.numbers.proofs.Fewest.{round-trip-in}
 use Rattle.numbers.proofs.Sixteen.{signed16Of, signed16-is}
-use Rattle.zigzag.proofs.Zig.{un-zig, zig-below, low-half}
+use Rattle.zigzag.proofs.Zig.{un-zig, zig-below, in-range, fits-range}
 use Rattle.numbers.proofs.Fixed.{Read, little-in, little-read, little-below-read, little-bytes, little-local}
 use Rattle.numbers.proofs.Put.{put-drop}
 
@@ -98,10 +96,15 @@ back64 n s rest at h e = ap as64 (round-trip-in 64 9 n h h (omega arith) s rest 
 pub record From32 (s : List ℕ) (at : ℕ) (z : ℤ) (p : ℕ) : Type 0 where
   pub value : ℕ
   pub is : varint32At s at ≡ V32.Got value p
-  pub low : z ≡ low16 (ofZ w32 (unzigzag value))
+  pub within : inRange16 (unzigzag value) ≡ true
+  pub number : z ≡ unzigzag value
 
 from32 : (x : Varint32) (s : List ℕ) (at : ℕ) (z : ℤ) (p : ℕ) → varint32At s at ≡ x → signed16Of x ≡ I16.Got z p → From32 s at z p
-from32 (V32.Got v q) s at z p f e = record { value = v; is = f ∙ ap (V32.Got v) (cc); low = cc }
+from32 (V32.Got v q) s at z p f e = go (inRange16 (unzigzag v)) refl e
+  where
+    go : (b : Bool) → inRange16 (unzigzag v) ≡ b → cond b (I16.Got (unzigzag v) q) (I16.Refused RANGE) ≡ I16.Got z p → From32 s at z p
+    go true t g = record { value = v; is = f ∙ ap (V32.Got v) (cc); within = t; number = cc }
+    go false t g = zero-one (cc)
 from32 (V32.Refused why) s at z p f e = zero-one (cc)
 
 module _ (s : List ℕ) (at : ℕ) (z : ℤ) (p : ℕ) (e : signed16At s at ≡ I16.Got z p) where
@@ -112,10 +115,10 @@ module _ (s : List ℕ) (at : ℕ) (z : ℤ) (p : ℕ) (e : signed16At s at ≡ 
   within16 = within32 s at (found16 .value) p (found16 .is)
 
   pub sfits16 : SFits w16 z
-  sfits16 = rw (found16 .low) (sfits-toZ (fits-of-lt (mod-lt (ofZ w32 (unzigzag (found16 .value))) (pow-pos 16))))
+  sfits16 = rw (found16 .number) (fits-range (unzigzag (found16 .value)) (found16 .within))
 
   pub local16 : (t : List ℕ) → take p t ≡ take p s → signed16At t at ≡ I16.Got z p
-  local16 t a = signed16-is t at ∙ ap signed16Of (local32 s at (found16 .value) p (found16 .is) t a) ∙ ap (λ (y : ℤ). I16.Got y p) (sym (found16 .low))
+  local16 t a = signed16-is t at ∙ ap signed16Of (local32 s at (found16 .value) p (found16 .is) t a) ∙ rw (found16 .within, ← found16 .number)
 
 -- an i16 that is written as the varint of its zigzag number reads back as itself
 pub back16 : (z : ℤ) (s rest : List ℕ) (at : ℕ) → SFits w16 z → drop at s ≡ fewest (zigzag z) ++ rest → signed16At s at ≡ I16.Got z (at + length (fewest (zigzag z)))
@@ -123,7 +126,7 @@ back16 z s rest at h e =
     let b = zig-below w16 z h in
     signed16-is s at
     ∙ ap signed16Of (back32 (zigzag z) s rest at (omega arith) e)
-    ∙ ap (λ (y : ℤ). I16.Got y (at + length (fewest (zigzag z)))) (ap (λ (y : ℤ). low16 (ofZ w32 y)) (un-zig z) ∙ low-half z h)
+    ∙ rw (un-zig z, in-range z h)
 
 -- the eight bytes
 module _ (s : List ℕ) (at v p : ℕ) (e : bits64At s at ≡ B64.Got v p) where

@@ -3,7 +3,7 @@ use mathlib.Core.Path.{_≡_, refl}
 use mathlib.Core.List.{List, [], _∷_}
 use Prim.Native.Nat.{ℕ, _-_, _^_}
 use lib.IntN.{ℤ, pos, negsuc}
-use Rattle.types.specs.Refusals.{END, LONG-VARINT}
+use Rattle.types.specs.Refusals.{END, LONG-VARINT, RANGE}
 use Rattle.numbers.specs.Varint.{fewest}
 use Rattle.zigzag.specs.Zigzag.{zigzag, unzigzag}
 use Rattle.numbers.specs.Answers.{varint32At, signed16At}
@@ -52,9 +52,9 @@ T3 =
     × (i32 (0xff ∷ 0xff ∷ 0xff ∷ 0xff ∷ 0xff ∷ []) ≡ refused LONG-VARINT)
     × (i32 (0xff ∷ 0xff ∷ 0xff ∷ 0xff ∷ []) ≡ refused END)
 
--- "80 80 04 as i16 gives -32768"
+-- "80 80 04 as i16 is 17"
 abbrev pub T4 : Type 0
-T4 = signed16At (0x80 ∷ 0x80 ∷ 0x04 ∷ []) 0 ≡ I16.Got (negsuc 32767) 3
+T4 = signed16At (0x80 ∷ 0x80 ∷ 0x04 ∷ []) 0 ≡ I16.Refused RANGE
 
 pub rows : T1 × T2 × T3 × T4
 unfolding fewest varint32At signed16At

@@ -6,11 +6,9 @@ use lib.ListN.{length}
 use lib.IntN.{ℤ}
 use lib.Seq.{sets, slice}
 use lib.Dec.{ltb}
-use mir.Syntax.{w32}
-use mir.Val.{ofZ}
-use Rattle.types.specs.Refusals.{END, NO-ROOM}
+use Rattle.types.specs.Refusals.{END, NO-ROOM, RANGE}
 use Rattle.numbers.specs.Varint.{Found, got, refused, varintAt}
-use Rattle.zigzag.specs.Zigzag.{low16, unzigzag}
+use Rattle.zigzag.specs.Zigzag.{unzigzag, inRange16}
 use Rattle.numbers.specs.Fixed.{little}
 use Rattle.numbers.specs.declared.Varint32.{Varint32}
 use Rattle.numbers.specs.declared.Varint32.the-variants as V32
@@ -48,9 +46,9 @@ varint32At s at = as32 (varintAt 32 5 s at)
 unfoldable pub varint64At : List ℕ → ℕ → Varint64
 varint64At s at = as64 (varintAt 64 10 s at)
 
--- "An i16 is read as a 32-bit zigzag number, of which the low 16 bits are kept, signed"
+-- "An i16 is read as a 32-bit zigzag number", and one "outside -32,768 to 32,767" is RANGE
 abbrev pub signed16 : Found ℕ → Found ℤ
-signed16 (got v n) = got (low16 (ofZ w32 (unzigzag v))) n
+signed16 (got v n) = cond (inRange16 (unzigzag v)) (got (unzigzag v) n) (refused RANGE)
 signed16 (refused why) = refused why
 
 -- the i16 at a place of the input

@@ -9,7 +9,7 @@ ghost use Rattle.numbers.specs.Varint.{fewest};
 ghost use Rattle.numbers.specs.Fixed.{little, four, eight};
 ghost use Rattle.numbers.specs.Answers.{varint32At, varint64At, signed16At, bits64At, wroteAt, putAt};
 
-// A number and the place behind it, or the number of a refusal: END or LONG VARINT.
+// A number and the place behind it, or the number of a refusal: END, LONG VARINT, and of an i16 RANGE.
 pub enum Varint32 {
     Got(u32, usize),
     Refused(u8),
@@ -96,14 +96,16 @@ pub fn read_varint64(s: &[u8], at: usize) -> Varint64
     Varint64::Refused(types::LONG_VARINT)
 }
 
-// An i16 is read as a 32-bit zigzag number, of which the low 16 bits are kept, signed.
+// An i16 is read as a 32-bit zigzag number. One that has more than 16 bits is out of range.
 pub fn read_i16(s: &[u8], at: usize) -> Int16
     ensures { λ r. ⌜ r ≡ signed16At (now (s .entry)) at ⌝ }
 {
     match read_varint32(s, at) {
         Varint32::Got(v, p) => {
-            let bits = zigzag::bits32(zigzag::zigzag_to_i32(v));
-            Int16::Got(zigzag::signed16((bits % 0x1_0000) as u16), p)
+            if v < 0x1_0000 {
+                return Int16::Got(zigzag::zigzag_to_i16(v as u16), p);
+            }
+            Int16::Refused(types::RANGE)
         }
         Varint32::Refused(no) => Int16::Refused(no),
     }

@@ -7,12 +7,13 @@ use Prim.Native.Nat.{ℕ, _+_, _-_, _*_, _/_, _%_, _^_, _≤_, _<_}
 use native.Mathlib.Omega.{arith}
 use borrow.Author.Tests.{eq-eqb, ne-eqb, lt-ltb, le-ltb, le-leb}
 use lib.Dec.{eqb, ltb}
-use lib.IntN.{ℤ}
+use lib.IntN.{ℤ, pos, negsuc}
 use lib.ListN.{length, length-append}
 use lib.Seq.{take-at, drop-at}
 use mir.Syntax.{w8, w16, w32, w64}
 use mir.Val.{SFits, ofZ}
 use mir.Facts.{toZ-ofZ, fits-ofZ}
+use Rattle.types.specs.Refusals.{RANGE}
 use Rattle.types.specs.Codes.{typeCode, truthCode, messageCode, elementType, messageByNumber}
 use Rattle.types.specs.declared.TType.{TType}
 use Rattle.types.specs.declared.TType.the-variants as T
@@ -21,14 +22,13 @@ use Rattle.types.specs.declared.TMessageType.{TMessageType}
 use Rattle.types.specs.declared.TConfiguration.{TConfiguration}
 use Rattle.types.proofs.Codes.{in-container, message-by-number}
 use Rattle.types.proofs.Limits.{Ranged}
-use Rattle.numbers.specs.Varint.{got, fewest}
-use Rattle.zigzag.specs.Zigzag.{zigzag, low16}
-use Rattle.numbers.specs.Answers.{signed16}
+use Rattle.numbers.specs.Varint.{got, refused, fewest}
+use Rattle.zigzag.specs.Zigzag.{zigzag}
 use Rattle.numbers.specs.Fixed.{little, eight}
 use Rattle.numbers.proofs.Found.{by-lt}
 use Rattle.numbers.proofs.Fewest.{round-trip, fewest-one}
 use Rattle.numbers.proofs.Fixed.{little-of, length-eight}
-use Rattle.zigzag.proofs.Zig.{un-zig, zig-below, low-half}
+use Rattle.zigzag.proofs.Zig.{un-zig, zig-below, in-range}
 use Rattle.utf8.specs.Utf8.{utf8}
 use Rattle.heads.specs.Reader.{Reader, done, andThen, provided, byte, some, Whole}
 use Rattle.heads.specs.Heads.{int8, number32, number64, int16, int32, int64, double, uuid, truth, binary, text, typed, counted, listed, items, mapped, pairs, messageTyped, named, versioned, message}
@@ -97,11 +97,14 @@ i64-reads z h =
     then-quiet number64 _ (zigzag z) z (intBytes z) (number64-reads (zigzag z) (zig-below w64 z h)) (λ rest. ap (λ (y : ℤ). done y rest) (un-zig z) ∙ done-reads z rest)
 
 pub i16-reads : (z : ℤ) → SFits w16 z → Reads int16 z (intBytes z)
-unfolding int16
-i16-reads z h rest =
-    let b = zig-below w16 z h in
-    ap signed16 (round-trip 32 4 (zigzag z) (omega arith) (omega arith) (omega arith) rest)
-    ∙ ap (λ (y : ℤ). got y (length (intBytes z))) (ap (λ (y : ℤ). low16 (ofZ w32 y)) (un-zig z) ∙ low-half z h)
+unfolding int16 provided
+i16-reads z h =
+    then-quiet int32 _ z z (intBytes z) (i32-reads z (wider z h))
+    (λ rest. ap (λ (t : Bool). cond t (done z rest) (refused RANGE)) (in-range z h) ∙ done-reads z rest)
+  where
+    wider : (z : ℤ) → SFits w16 z → SFits w32 z
+    wider (pos n) k = record { sfits = omega (arith, k .sfits) }
+    wider (negsuc n) k = record { sfits = omega (arith, k .sfits) }
 
 eight-little : (n : ℕ) → n < 2 ^ 64 → little (eight n) ≡ n
 unfolding eight

@@ -4,67 +4,32 @@ use mathlib.Core.Path.{_≡_, refl, sym, ap, subst, _∙_}
 use mathlib.Core.Bool.{Bool, true, false, cond}
 use mathlib.Core.List.{List, [], _∷_}
 use Prim.Native.Nat.{ℕ, zero, suc, _+_, _/_, _%_, _^_, _≤_, _<_}
-use native.Mathlib.Nat.{mod-le, lt-of-le-of-lt}
 use native.Mathlib.Omega.{arith}
 use borrow.Author.Tests.{ne-eqb}
 use lib.IntN.{ℤ, pos, negsuc, _+ℤ_}
 use lib.ListN.{length, getD}
 use lib.Signed.{ltZ}
-use mir.Syntax.{w16, w32}
-use mir.Val.{SFits, ofZ}
+use mir.Syntax.{w16}
+use mir.Val.{SFits}
 use Rattle.types.specs.Refusals.{FIELD-ID}
 use Rattle.types.specs.Codes.{fieldType}
 use Rattle.types.specs.declared.FieldType.{FieldType}
 use Rattle.types.specs.declared.FieldType.the-variants as FT
-use Rattle.numbers.specs.Varint.{Found, got, refused, placed, varint, groups}
-use Rattle.zigzag.specs.Zigzag.{zigzag, unzigzag, low16}
-use Rattle.numbers.specs.Answers.{signed16}
-use Rattle.numbers.proofs.Found.{by-lt, kept, took}
-use Rattle.numbers.proofs.Fewest.{shortest, at-most}
-use Rattle.zigzag.proofs.Zig.{zig-un, zig-below, low-half}
+use Rattle.numbers.specs.Varint.{Found, got, refused}
+use Rattle.numbers.proofs.Fewest.{shortest}
+use Rattle.zigzag.proofs.Zig.{zig-un}
 use Rattle.heads.specs.Reader.{done, refuse, andThen, byte}
-use Rattle.heads.specs.Heads.{int16, fieldId, ofType, field, Field, stop, bool, value}
+use Rattle.heads.specs.Heads.{number32, int16, fieldId, ofType, field, Field, stop, bool, value}
 use Rattle.heads.proofs.Lawful.{both, not-both}
+use Rattle.heads.proofs.Readers.{was32, was16}
 use Rattle.heads.proofs.Steps.{found-at}
 use Rattle.puts.specs.Bytes.{intBytes, shortDelta, fieldBytes}
 use Rattle.output.proofs.Fields.{long-form, short-form, short}
 
--- a number that v bytes read as is below 128 ^ v
-below-read : (w k : ℕ) (bs : List ℕ) (n m : ℕ) → varint w k bs ≡ got n m → n < 128 ^ m
-below-read w k bs n m e =
-    let f = kept w 0 n (0 + m) (groups k bs) (ap (placed 0) e) in
-    let t = took k bs (f .value) (f .used) (f .is) in
-    let same : f .used ≡ m = omega (arith, f .ends) in
-    subst (λ (i : ℕ). n < 128 ^ i) same (subst (λ (i : ℕ). i < 128 ^ f .used) (f .low) (lt-of-le-of-lt (mod-le (f .value) (2 ^ w)) (t .below)))
-
-three : (n m : ℕ) → n < 128 ^ m → 2 ^ 16 ≤ n → 3 ≤ m
-three n zero h k = absurd (omega arith)
-three n (suc zero) h k = absurd (omega arith)
-three n (suc (suc zero)) h k = absurd (omega arith)
-three n (suc (suc (suc m))) h k = omega arith
-
-zig-small : (z : ℤ) → zigzag z < 2 ^ 16 → SFits w16 z
-zig-small (pos n) h = record { sfits = omega arith }
-zig-small (negsuc n) h = record { sfits = omega arith }
-
 -- bytes that read as an i16 are no fewer than those that it is written as
-number-shortest : (x : Found ℕ) (bs : List ℕ) (z : ℤ) (k : ℕ) → varint 32 5 bs ≡ x → signed16 x ≡ got z k → SFits w16 z → length (intBytes z) ≤ k
-number-shortest (refused why) bs z k e f h = not-both f
-number-shortest (got v m) bs z k e f h =
-    let q : m ≡ k = cc in
-    let low : low16 (ofZ w32 (unzigzag v)) ≡ z = cc in
-    by-lt v (2 ^ 16)
-    (λ l.
-    let s : SFits w16 (unzigzag v) = zig-small (unzigzag v) (subst (λ (n : ℕ). n < 2 ^ 16) (sym (zig-un v)) l) in
-    let same : zigzag z ≡ v = ap zigzag (sym low ∙ low-half (unzigzag v) s) ∙ zig-un v in
-    rw (same, ← q) (shortest 32 5 bs v m e))
-    (λ l.
-    let b = zig-below w16 z h in
-    omega (arith, three v m (below-read 32 5 bs v m e) l, at-most 2 (zigzag z) (omega arith)))
-
-pub i16-shortest : (bs : List ℕ) (z : ℤ) (k : ℕ) → int16 bs ≡ got z k → SFits w16 z → length (intBytes z) ≤ k
-unfolding int16
-i16-shortest bs z k e h = number-shortest (varint 32 5 bs) bs z k refl e h
+pub i16-shortest : (bs : List ℕ) (z : ℤ) (k : ℕ) → int16 bs ≡ got z k → length (intBytes z) ≤ k
+unfolding number32
+i16-shortest bs z k e = let f = was32 bs z k (was16 bs z k e .0) in rw (f .is, zig-un (f .value)) (shortest 32 5 bs (f .value) k (f .read))
 
 -- the length of either form
 module _ (last id : ℤ) (code k : ℕ) where
@@ -83,7 +48,7 @@ module _ (last id : ℤ) (code k : ℕ) where
   -- an id behind a delta that the rules let a writer use
   id-shortest : (d : ℕ) (xs : List ℕ) → fieldId last d xs ≡ got id k → d < 15 → SFits w16 id → length (fieldBytes last id code) ≤ suc k
   unfolding fieldId
-  id-shortest zero xs e h f = form-shortest (i16-shortest xs id k e f)
+  id-shortest zero xs e h f = form-shortest (i16-shortest xs id k e)
   id-shortest (suc d) xs e h f =
       let g = rw (ne-eqb (suc d) 0 (λ z. omega arith)) at e in
       let s : last +ℤ pos (suc d) ≡ id = found-sum (ltZ (pos 32767) (last +ℤ pos (suc d))) (last +ℤ pos (suc d)) xs g in

@@ -24,6 +24,7 @@ use Rattle.input.specs.Answers.{asDone, numberDone}
 use Rattle.input.specs.declared.Awaited.{Awaited}
 use Rattle.input.specs.declared.Awaited.the-variants as W
 use Rattle.input.specs.declared.ReadDone.{ReadDone}
+use Rattle.input.proofs.Refusals.{Shown, shown}
 use Rattle.input.proofs.Gate.{Gated, bad, turn, through, gated}
 use Rattle.input.proofs.Laws.{CallLaws, not-true}
 use Rattle.skip.specs.Walk.{Entry, fields}
@@ -108,12 +109,7 @@ module _ {R : Type 0} (c d : List ℕ → State → R) (number : R → ℕ) (sta
       }
 
 -- a call that is refused whatever the input shows
-pub record Flat (why : ℕ) : Type 0 where
-  pub some : 0 < why
-  pub turnless : why ≡ OUT-OF-TURN → ⊥
-  pub stateless : why ≡ BAD-STATE → ⊥
-
-module _ (why : State → ℕ) (fl : (st : State) → Flat (why st)) where
+module _ (why : State → ℕ) (fl : (st : State) → Shown (why st)) where
   abbrev flatly : List ℕ → State → ReadDone
   flatly s st = asDone (guarded s st (declines (why st) st))
 
@@ -204,12 +200,12 @@ module _ (why : State → ℕ) (fl : (st : State) → Flat (why st)) where
 abbrev shortOf : State → ℕ
 shortOf st = cond (ltb (st .depth) (st .limits .depth)) NO-ROOM DEPTH
 
-short-flat : (st : State) → Flat (shortOf st)
+short-flat : (st : State) → Shown (shortOf st)
 short-flat st = go (ltb (st .depth) (st .limits .depth))
   where
-    go : (b : Bool) → Flat (cond b NO-ROOM DEPTH)
-    go true = record { some = omega arith; turnless = λ e. omega arith; stateless = λ e. omega arith }
-    go false = record { some = omega arith; turnless = λ e. omega arith; stateless = λ e. omega arith }
+    go : (b : Bool) → Shown (cond b NO-ROOM DEPTH)
+    go true = shown NO-ROOM refl
+    go false = shown DEPTH refl
 
 module _ (ids : List ℤ) (kinds : List ℕ) (n : ℕ) where
   unlisted : listed ids kinds ≡ false → (s : List ℕ) (st : State) → pickCall ids kinds n s st ≡ asDone (guarded s st (declines BAD-LIST st))
@@ -236,7 +232,7 @@ module _ (ids : List ℤ) (kinds : List ℕ) (n : ℕ) where
       go true l true h = carried _ (λ s st. skipCall s st T.Struct) _ _ _ (λ s st. as-skip-call s st ids kinds n l h) (skip-laws T.Struct)
       go true l false h = carried _ _ _ _ _ (roomless l h) (flat-laws shortOf short-flat)
       go false l b h =
-          carried _ _ _ _ _ (unlisted l) (flat-laws (λ st. BAD-LIST) (λ st. record { some = omega arith; turnless = λ e. omega arith; stateless = λ e. omega arith }))
+          carried _ _ _ _ _ (unlisted l) (flat-laws (λ st. BAD-LIST) (λ st. shown BAD-LIST refl))
 
 -- A refusal leaves the rows as they were, and the bytes behind the struct have no say in them.
 

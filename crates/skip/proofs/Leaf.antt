@@ -18,10 +18,11 @@ use Rattle.types.specs.declared.TConfiguration.{TConfiguration}
 use Rattle.types.specs.declared.FieldType.{FieldType}
 use Rattle.types.proofs.Limits.{both}
 use Rattle.numbers.specs.Varint.{Found, got, refused, more, groups, keep, varint, placed}
-use Rattle.numbers.specs.Answers.{signed16}
 use Rattle.heads.specs.Reader.{byte, some, readAt}
 use Rattle.heads.specs.Heads.{number32, number64, int8, int16, int32, int64, double, uuid, truth, binary, stop, ofType, field}
-use Rattle.heads.specs.Answers.{place, toBool, truthAt, toPart, binaryAt}
+use Rattle.heads.specs.Answers.{place, toBool, truthAt, toI16, int16At, toPart, binaryAt}
+use Rattle.heads.specs.declared.I16Read.{I16Read}
+use Rattle.heads.specs.declared.I16Read.the-variants as I16
 use Rattle.heads.specs.declared.BoolRead.{BoolRead}
 use Rattle.heads.specs.declared.BoolRead.the-variants as B
 use Rattle.heads.specs.declared.PartRead.{PartRead}
@@ -42,6 +43,14 @@ of-bool (B.Refused why) = Refused why
 as-bool : (x : Found Bool) → of-bool (toBool x) ≡ passed x
 as-bool (got a e) = refl
 as-bool (refused why) = refl
+
+abbrev of-i16 : I16Read → Skipped
+of-i16 (I16.Got z e) = Done e
+of-i16 (I16.Refused why) = Refused why
+
+as-i16 : (x : Found ℤ) → of-i16 (toI16 x) ≡ passed x
+as-i16 (got z e) = refl
+as-i16 (refused why) = refl
 
 -- a part's answer, as skip has it
 abbrev of-part : PartRead → Skipped
@@ -64,6 +73,17 @@ module _ (s : List ℕ) (at : ℕ) (r : BoolRead) (f : r ≡ truthAt s at) where
   pub bool-refused : (why : ℕ) → r ≡ B.Refused why → Refused why ≡ past truth s at
   bool-refused why g = over-bool (B.Refused why) g
 
+module _ (s : List ℕ) (at : ℕ) (r : I16Read) (f : r ≡ int16At s at) where
+  over-i16 : (q : I16Read) → r ≡ q → of-i16 q ≡ past int16 s at
+  unfolding int16At past
+  over-i16 q g = ap of-i16 (sym g ∙ f) ∙ as-i16 (readAt int16 s at)
+
+  pub i16-done : (z : ℤ) (e : Place) → r ≡ I16.Got z e → Done e ≡ past int16 s at
+  i16-done z e g = over-i16 (I16.Got z e) g
+
+  pub i16-refused : (why : ℕ) → r ≡ I16.Refused why → Refused why ≡ past int16 s at
+  i16-refused why g = over-i16 (I16.Refused why) g
+
 module _ (s : List ℕ) (lim : TConfiguration) (at : ℕ) (r : PartRead) (f : r ≡ binaryAt s lim at) where
   over-bytes : (q : PartRead) → r ≡ q → of-part q ≡ past (binary lim) s at
   unfolding binaryAt past
@@ -75,7 +95,7 @@ module _ (s : List ℕ) (lim : TConfiguration) (at : ℕ) (r : PartRead) (f : r 
   pub bytes-refused : (why : ℕ) → r ≡ P.Refused why → Refused why ≡ past (binary lim) s at
   bytes-refused why g = over-bytes (P.Refused why) g
 
-pub ruleset leaf-ends = (bool-done, bool-refused, bytes-done, bytes-refused)
+pub ruleset leaf-ends = (bool-done, bool-refused, i16-done, i16-refused, bytes-done, bytes-refused)
 
 -- skip_some
 bytes-left : (s : List ℕ) (at n : ℕ) → past (some n) s at ≡ cond (leb n (length s - at)) (Done (place (at + n))) (Refused END)
@@ -153,10 +173,6 @@ kept : (at w : ℕ) (x : Found ℕ) → passed (placed at (keep w x)) ≡ passed
 kept at w (got v n) = refl
 kept at w (refused why) = refl
 
-kept16 : (at w : ℕ) (x : Found ℕ) → passed (placed at (signed16 (keep w x))) ≡ passed (placed at x)
-kept16 at w (got v n) = refl
-kept16 at w (refused why) = refl
-
 one-byte : (at : ℕ) (bs : List ℕ) → passed (placed at (byte bs)) ≡ passed (placed at (some 1 bs))
 unfolding byte some
 one-byte at [] = refl
@@ -170,10 +186,6 @@ module _ (s : List ℕ) (at : ℕ) where
   pub i8-ends : past int8 s at ≡ past (some 1) s at
   unfolding int8 past readAt
   i8-ends = past-made byte _ s at ∙ one-byte at (drop at s)
-
-  pub i16-ends : past int16 s at ≡ past (groups 5) s at
-  unfolding int16 past readAt
-  i16-ends = kept16 at 32 (groups 5 (drop at s))
 
   pub i32-ends : past int32 s at ≡ past (groups 5) s at
   unfolding int32 number32

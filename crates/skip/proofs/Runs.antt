@@ -25,7 +25,7 @@ use Rattle.skip.specs.Leaves.{times, noneOf, scalarOf}
 use Rattle.skip.specs.declared.Skipped.{Skipped}
 use Rattle.skip.specs.declared.Skipped.the-variants.{Done, Refused}
 use Rattle.skip.proofs.Past.{read-past, refused-past, past-step, past-stop, past-made, past-refuse, past-done, pos-suc}
-use Rattle.skip.proofs.Leaf.{i8-ends, i16-ends, i32-ends, i64-ends, double-ends, uuid-ends}
+use Rattle.skip.proofs.Leaf.{i8-ends, i32-ends, i64-ends, double-ends, uuid-ends}
 
 -- one of so many
 module _ {A : Type 0} (q : Reader A) (s : List ℕ) where
@@ -117,9 +117,9 @@ module _ (s : List ℕ) (lim : TConfiguration) (kind : TType) (n at : ℕ) (r : 
   unfolding valueOf
   leaves-i8 g e = as-bytes 1 n (λ p. rw g (past-made int8 _ s p ∙ i8-ends s p)) (sym (mul-one n)) e
 
-  pub leaves-i16 : kind ≡ T.I16 → r ≡ past (times n (groups 5)) s at → r ≡ past (many (valueOf lim 0 kind) n) s at
+  pub leaves-i16 : kind ≡ T.I16 → r ≡ past (times n int16) s at → r ≡ past (many (valueOf lim 0 kind) n) s at
   unfolding valueOf
-  leaves-i16 g e = as-times (groups 5) (λ p. rw g (past-made int16 _ s p ∙ i16-ends s p)) e
+  leaves-i16 g e = as-times int16 (λ p. rw g (past-made int16 _ s p)) e
 
   pub leaves-i32 : kind ≡ T.I32 → r ≡ past (times n (groups 5)) s at → r ≡ past (many (valueOf lim 0 kind) n) s at
   unfolding valueOf

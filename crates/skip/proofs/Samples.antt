@@ -1,9 +1,10 @@
--- Samples of skip, computed: the structs of T13, nesting at and over the limit, and a count that the input can't hold. Assumes nothing.
+-- Samples of skip, computed: the structs of T13, nesting at and over the limit, a count that the input can't hold, and an i16 out of range as element, as a field's id and
+-- as a bool field's. Assumes nothing.
 use mathlib.Core.Path.{_≡_, refl}
 use mathlib.Core.List.{List, [], _∷_, _++_}
 use Prim.Native.Nat.{ℕ}
 use lib.ListN.{replicate}
-use Rattle.types.specs.Refusals.{END, BAD-TYPE, DEPTH}
+use Rattle.types.specs.Refusals.{END, BAD-TYPE, DEPTH, RANGE}
 use Rattle.types.specs.Codes.{typeCode, typeByNumber, elementType, fieldType}
 use Rattle.types.specs.Limits.{defaults}
 use Rattle.types.specs.declared.TType.the-variants as T
@@ -29,7 +30,10 @@ Samples =
     × (skipOf (0x10 ∷ []) defaults 64 T.List 0 ≡ Refused BAD-TYPE)
     × (skipOf (0x00 ∷ []) defaults 64 T.List 0 ≡ Done (place 1))
     × (skipOf (0x01 ∷ 0x30 ∷ []) defaults 64 T.Map 0 ≡ Refused BAD-TYPE)
+    × (skipOf (0x14 ∷ 0x80 ∷ 0x80 ∷ 0x04 ∷ []) defaults 64 T.List 0 ≡ Refused RANGE)
+    × (skipOf (0x03 ∷ 0x82 ∷ 0x80 ∷ 0x08 ∷ 0x05 ∷ 0x00 ∷ []) defaults 64 T.Struct 0 ≡ Refused RANGE)
+    × (skipOf (0x01 ∷ 0x82 ∷ 0x80 ∷ 0x08 ∷ 0x00 ∷ []) defaults 64 T.Struct 0 ≡ Refused RANGE)
 
 pub samples : Samples
 unfolding Samples skipOf past readAt valueOf fields walk sizing many manyPairs done refuse andThen provided byte some int8 number32 number64 int16 int32 int64 double uuid truth binary counted listed items mapped pairs fieldId field typeCode typeByNumber elementType fieldType defaults
-samples = (refl, refl, refl, refl, refl, refl, refl, refl)
+samples = (refl, refl, refl, refl, refl, refl, refl, refl, refl, refl, refl)

@@ -32,7 +32,7 @@ use Rattle.skip.specs.declared.Skipped.{Skipped}
 use Rattle.skip.specs.declared.Skipped.the-variants.{Done, Refused}
 use Rattle.skip.proofs.Past.{done-refused, read-past, past-made}
 use Rattle.skip.proofs.Lawfuls.{value-lawful}
-use Rattle.skip.proofs.Leaf.{flat, i8-ends, i16-ends, i32-ends, i64-ends, double-ends, uuid-ends}
+use Rattle.skip.proofs.Leaf.{flat, i8-ends, i32-ends, i64-ends, double-ends, uuid-ends}
 use Rattle.skip.proofs.Cycle.{walk-bool, walk-value, read-inside}
 
 -- a scalar that was passed over is a value of its type, with whatever room
@@ -45,7 +45,7 @@ module _ (s : List ℕ) (lim : TConfiguration) (room at : ℕ) (e : Place) where
   scalar-value T.Stop f = done-refused (sym f)
   scalar-value T.Bool f = done-refused (sym f)
   scalar-value T.I08 f = level T.I08 refl (past-made int8 _ s at ∙ i8-ends s at ∙ f)
-  scalar-value T.I16 f = level T.I16 refl (past-made int16 _ s at ∙ i16-ends s at ∙ f)
+  scalar-value T.I16 f = level T.I16 refl (past-made int16 _ s at ∙ f)
   scalar-value T.I32 f = level T.I32 refl (past-made int32 _ s at ∙ i32-ends s at ∙ f)
   scalar-value T.I64 f = level T.I64 refl (past-made int64 _ s at ∙ i64-ends s at ∙ f)
   scalar-value T.Double f = level T.Double refl (past-made double _ s at ∙ double-ends s at ∙ f)

@@ -13,6 +13,7 @@ use Rattle.types.specs.declared.TConfiguration.{TConfiguration}
 use Rattle.types.specs.Value as val
 use Rattle.numbers.specs.Varint.{groups}
 use Rattle.heads.specs.Reader.{Reader, done, andThen, some}
+use Rattle.heads.specs.Heads.{int16}
 use Rattle.heads.specs.Answers.{place}
 use Rattle.skip.specs.Walk.{fields}
 use Rattle.skip.specs.Value.{valueOf}
@@ -50,7 +51,7 @@ abbrev pub scalarOf : List ℕ → TType → ℕ → Skipped
 scalarOf s T.Stop at = Refused BAD-TYPE
 scalarOf s T.Bool at = Refused BAD-TYPE
 scalarOf s T.I08 at = past (some 1) s at
-scalarOf s T.I16 at = past (groups 5) s at
+scalarOf s T.I16 at = past int16 s at
 scalarOf s T.I32 at = past (groups 5) s at
 scalarOf s T.I64 at = past (groups 10) s at
 scalarOf s T.Double at = past (some 8) s at

@@ -1,15 +1,16 @@
-// Values that hold no other, one of them or many: they are passed over by their ends alone, and no number is made of their bytes.
+// Values that hold no other, one of them or many: they are passed over by their ends alone, and no number is made of their bytes but of an i16's.
 ghost use mathlib.Core.Path.{_≡_};
 ghost use Prim.Native.Nat.{ℕ, _≤_};
 ghost use Rattle.numbers.specs.Varint.{groups};
 ghost use Rattle.heads.specs.Reader.{some};
-ghost use Rattle.heads.specs.Heads.{truth, binary};
+ghost use Rattle.heads.specs.Heads.{int16, truth, binary};
 ghost use Rattle.heads.specs.Answers.{place};
 ghost use Rattle.skip.specs.Value.{many, valueOf};
 ghost use Rattle.skip.specs.Skip.{past, skipOf};
 ghost use Rattle.skip.specs.Leaves.{isLeaf, times, noneOf, scalarOf, stopEnd, Onward};
 use crate::Skipped;
 use heads::BoolRead;
+use heads::I16Read;
 use heads::PartRead;
 use types::FieldId;
 use types::FieldType;
@@ -88,6 +89,16 @@ fn skip_bool(s: &[u8], at: Place) -> Skipped
     }
 }
 
+// An i16 may be out of range, so its number is made.
+fn skip_i16(s: &[u8], at: Place) -> Skipped
+    ensures { λ r. ⌜ r ≡ past int16 (now (s .entry)) (at .0) ⌝ }
+{
+    match heads::read_i16(s, at) {
+        I16Read::Got(_, next) => Skipped::Done(next),
+        I16Read::Refused(why) => Skipped::Refused(why),
+    }
+}
+
 // A string's bytes are passed over unseen: skip checks no UTF-8.
 fn skip_bytes(s: &[u8], at: Place, limits: TConfiguration) -> Skipped
     ensures { λ r. ⌜ r ≡ past (binary limits) (now (s .entry)) (at .0) ⌝ }
@@ -125,6 +136,25 @@ fn skip_bools(s: &[u8], at: Place, count: u32) -> Skipped
     let mut p = at;
     while 0 < left {
         match skip_bool(s, p) {
+            Skipped::Done(e) => {
+                p = e;
+            }
+            Skipped::Refused(why) => {
+                return Skipped::Refused(why);
+            }
+        }
+        left = left - 1;
+    }
+    Skipped::Done(p)
+}
+
+fn skip_i16s(s: &[u8], at: Place, count: u32) -> Skipped
+    ensures { λ r. ⌜ r ≡ past (times count int16) (now (s .entry)) (at .0) ⌝ }
+{
+    let mut left = count;
+    let mut p = at;
+    while 0 < left {
+        match skip_i16(s, p) {
             Skipped::Done(e) => {
                 p = e;
             }
@@ -181,7 +211,7 @@ pub(crate) fn skip_leaves(
         TType::Stop => skip_none(at, count, types::BAD_TYPE),
         TType::Bool => skip_bools(s, at, count),
         TType::I08 => skip_some(s, at.0, n),
-        TType::I16 => skip_varints(s, at, count, 5),
+        TType::I16 => skip_i16s(s, at, count),
         TType::I32 => skip_varints(s, at, count, 5),
         TType::I64 => skip_varints(s, at, count, 10),
         TType::Double => skip_some(s, at.0, n * 8),
@@ -207,7 +237,7 @@ fn skip_scalar(s: &[u8], at: usize, kind: TType) -> Skipped
 {
     match kind {
         TType::I08 => skip_some(s, at, 1),
-        TType::I16 => skip_varint(s, at, 5),
+        TType::I16 => skip_i16(s, Place(at)),
         TType::I32 => skip_varint(s, at, 5),
         TType::I64 => skip_varint(s, at, 10),
         TType::Double => skip_some(s, at, 8),

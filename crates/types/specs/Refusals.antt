@@ -64,3 +64,7 @@ BAD-STATE = 15
 -- wanted ids and types differ in number, over 64 entries, an id twice, or a type that no field can have
 abbrev pub BAD-LIST : ℕ
 BAD-LIST = 16
+
+-- an i16, as value or field id, whose zigzag number lies outside -32,768 to 32,767
+abbrev pub RANGE : ℕ
+RANGE = 17

@@ -1,20 +1,20 @@
 -- Zigzag at every width: the code's bits have the signed meaning that `zigzag` and `unzigzag` give. Assumes nothing.
 use mathlib.Core.Path.{_≡_, refl, sym, ap, _∙_}
-use mathlib.Core.Bool.{true, false}
+use mathlib.Core.Bool.{Bool, true, false, _&&_}
 use mathlib.Core.Logic.{_⊎_, inl, inr, ⊎-elim}
 use Prim.Native.Nat.{ℕ, zero, suc, _+_, _-_, _*_, _/_, _%_, _^_, _<_}
 use native.Mathlib.Nat.{mod-eq-of-lt, add-zero}
 use native.Mathlib.Omega.{arith}
 use native.Mathlib.Decide.{decLt}
-use borrow.Author.Tests.{eq-eqb, ne-eqb}
+use borrow.Author.Tests.{eq-eqb, ne-eqb, lt-ltb, le-ltb, ltb-true, leb-true, leb-false}
 use lib.IntN.{ℤ, pos, negsuc, natAbs}
 use lib.Signed.{leZ, nonNeg}
 use lib.Bits.{bitXor, xor-zero-r, xor-add-and, and-mask}
-use lib.Dec.{T, leb·zero}
+use lib.Dec.{T, leb, ltb, leb·zero}
 use mir.Syntax.{Width, w8, w16, w32, w64, w128}
 use mir.Val.{bits, hbits, Fits, SFits, toZ, ofZ}
 use mir.Facts.{toZ-ofZ, toZ-pos, toZ-neg, sfits-toZ, fits-xor, fits-div, fits-ofZ}
-use Rattle.zigzag.specs.Zigzag.{zigzag, unzigzag, low16}
+use Rattle.zigzag.specs.Zigzag.{zigzag, unzigzag, inRange16}
 
 -- a width's power is twice its half's
 twice-half : (w : Width) → 2 ^ bits w ≡ 2 * 2 ^ hbits w
@@ -108,16 +108,34 @@ pub zig-below : (w : Width) (z : ℤ) → SFits w z → zigzag z < 2 ^ bits w
 zig-below w (pos n) h = omega (arith, twice-lt w (h .sfits))
 zig-below w (negsuc n) h = omega (arith, twice-lt w (h .sfits))
 
--- 16 signed bits are found again in the low half of 32
-pub low-half : (z : ℤ) → SFits w16 z → low16 (ofZ w32 z) ≡ z
-low-half (pos n) h =
-    let b : n < 2 ^ 15 = h .sfits in
-    let e : n % 2 ^ 16 ≡ n = omega arith in
-    rw e (toZ-pos w16 b)
-low-half (negsuc n) h =
-    let b : n < 2 ^ 15 = h .sfits in
-    let e : (2 ^ 32 - suc n) % 2 ^ 16 ≡ 2 ^ 16 - suc n = omega arith in
-    rw e (toZ-neg w16 n b)
+-- the numbers of an i16 are those whose zigzag number has 16 bits: one test of an unsigned number tells
+halved : (n m : ℕ) → m / 2 ≡ n → leb n 32767 ≡ ltb m 65536
+halved n m h = go (leb n 32767) refl
+  where
+    go : (b : Bool) → leb n 32767 ≡ b → leb n 32767 ≡ ltb m 65536
+    go true e = e ∙ sym (lt-ltb m 65536 (omega (arith, leb-true n 32767 e)))
+    go false e = e ∙ sym (le-ltb m 65536 (omega (arith, leb-false n 32767 e)))
+
+zig-range : (z : ℤ) → inRange16 z ≡ ltb (zigzag z) 65536
+zig-range (pos n) = halved n (2 * n) (omega arith)
+zig-range (negsuc n) = and-true (leb n 32767) ∙ halved n (2 * n + 1) (omega arith)
+  where
+    and-true : (b : Bool) → (b && true) ≡ b
+    and-true true = refl
+    and-true false = refl
+
+pub range-exact : (n : ℕ) → inRange16 (unzigzag n) ≡ ltb n 65536
+range-exact n = zig-range (unzigzag n) ∙ ap (λ (m : ℕ). ltb m 65536) (zig-un n)
+
+pub in-range : (z : ℤ) → SFits w16 z → inRange16 z ≡ true
+in-range z h = zig-range z ∙ lt-ltb (zigzag z) 65536 (zig-below w16 z h)
+
+pub fits-range : (z : ℤ) → inRange16 z ≡ true → SFits w16 z
+fits-range z e = small z (ltb-true (zigzag z) 65536 (sym (zig-range z) ∙ e))
+  where
+    small : (z : ℤ) → zigzag z < 65536 → SFits w16 z
+    small (pos n) h = record { sfits = omega arith }
+    small (negsuc n) h = record { sfits = omega arith }
 
 -- bits that are turned twice
 pub turned-twice : (w : Width) (n : ℕ) → n < 2 ^ bits w → toZ w (2 ^ bits w - 1 - (2 ^ bits w - 1 - n)) ≡ toZ w n

@@ -65,6 +65,12 @@ pub fn bits32(n: i32) -> u32
 }
 
 // Half of n, with every bit turned where n is odd: the lowest bit is subtracted from zero, wrapping.
+pub fn zigzag_to_i16(n: u16) -> i16
+    ensures { λ r. ⌜ r ≡ unzigzag n ⌝ }
+{
+    signed16((n / 2) ^ std::num::wrapping_sub_u16(0, n % 2))
+}
+
 pub fn zigzag_to_i32(n: u32) -> i32
     ensures { λ r. ⌜ r ≡ unzigzag n ⌝ }
 {

@@ -17,7 +17,7 @@ read!(/// A 32-bit varint at a place.
     read_varint32, tagrumzil_varint32, u32);
 read!(/// A 64-bit varint at a place.
     read_varint64, tagrumzil_varint64, u64);
-read!(/// An i16 at a place: the low 16 bits of a 32-bit zigzag number.
+read!(/// An i16 at a place: a 32-bit zigzag number, RANGE where it is outside -32,768 to 32,767.
     read_i16, tagrumzil_i16, i16);
 read!(/// The bits of eight bytes at a place, lowest first.
     read_le64, tagrumzil_le64, u64);

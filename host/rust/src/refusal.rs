@@ -1,12 +1,12 @@
 use std::fmt;
 
-/// Why a call was refused: a number of the scope's table, 1 to 16.
+/// Why a call was refused: a number of the scope's table, 1 to 17.
 #[derive(Clone, Copy, PartialEq, Eq, Hash)]
 pub struct Refusal(u8);
 
-const NAMES: [&str; 17] = [
+const NAMES: [&str; 18] = [
     "NONE", "END", "BAD VERSION", "BAD MESSAGE TYPE", "BAD TYPE", "BAD BOOL", "LONG VARINT", "FIELD ID", "SIZE LIMIT", "NEGATIVE SIZE", "DEPTH", "BAD UTF-8",
-    "OUT OF TURN", "SCRATCH", "NO ROOM", "BAD STATE", "BAD LIST",
+    "OUT OF TURN", "SCRATCH", "NO ROOM", "BAD STATE", "BAD LIST", "RANGE",
 ];
 
 impl Refusal {
@@ -40,6 +40,8 @@ impl Refusal {
     pub const BAD_STATE: Refusal = Refusal(15);
     /// Wanted ids and types that differ in number, over 64 of them, an id twice, or a type that no field can have.
     pub const BAD_LIST: Refusal = Refusal(16);
+    /// An i16, as value or field id, outside -32,768 to 32,767.
+    pub const RANGE: Refusal = Refusal(17);
 
     pub(crate) fn from_number(number: u8) -> Refusal {
         Refusal(number)

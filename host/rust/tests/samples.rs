@@ -18,7 +18,29 @@ fn t1_to_t4_numbers() {
     assert_eq!(TCompactInputProtocol::new(&[0xFF, 0xFF, 0xFF, 0xFF, 0x7F]).read_i32(), Ok(i32::MIN));
     assert_eq!(TCompactInputProtocol::new(&[0xFF; 5]).read_i32(), Err(Refusal::LONG_VARINT));
     assert_eq!(TCompactInputProtocol::new(&[0xFF; 4]).read_i32(), Err(Refusal::END));
-    assert_eq!(TCompactInputProtocol::new(&[0x80, 0x80, 0x04]).read_i16(), Ok(-32768));
+    assert_eq!(TCompactInputProtocol::new(&[0x80, 0x80, 0x04]).read_i16(), Err(Refusal::RANGE));
+}
+
+#[test]
+fn an_i16_out_of_range() {
+    // 65,537 is 82 80 08, 32,768 is 80 80 04: as a value, as a field's id, as a bool field's id, in skip and in the picker.
+    let id = [0x05, 0x82, 0x80, 0x08, 0x02, 0x00];
+    let bool_id = [0x01, 0x82, 0x80, 0x08, 0x00];
+    let list = [0x14, 0x80, 0x80, 0x04];
+    let value = [0x14, 0x80, 0x80, 0x04, 0x00];
+    assert_eq!(TCompactInputProtocol::new(&list[1..]).read_i16(), Err(Refusal::RANGE));
+    assert_eq!(TCompactInputProtocol::new(&[0xFE, 0xFF, 0x03]).read_i16(), Ok(32767));
+    for bytes in [&id[..], &bool_id] {
+        let mut reader = TCompactInputProtocol::new(bytes);
+        assert_eq!(reader.read_field_begin(), Err(Refusal::RANGE));
+        // Nothing waits behind the refusal, and the place is as it was.
+        assert_eq!((reader.read_i8(), reader.place()), (Ok(bytes[0] as i8), 1));
+    }
+    assert_eq!(skip(&list, TType::List), Err(Refusal::RANGE));
+    for bytes in [&id[..], &bool_id, &value] {
+        assert_eq!(skip(bytes, TType::Struct), Err(Refusal::RANGE));
+        assert_eq!(picked(bytes, &[1], &[TType::I32]), (Err(Refusal::RANGE), [Picked::Bool(true); 4], 0));
+    }
 }
 
 fn field(last: i16, bytes: &[u8]) -> Result<TFieldIdentifier, Refusal> {
@@ -198,7 +220,8 @@ fn bare_numbers() {
     }
     assert_eq!(write_varint(&mut buffer, 9, 128), Err(Refusal::NO_ROOM));
     assert_eq!(read_varint32(&[0x80, 0x01], 0), Ok((128, 2)));
-    assert_eq!(read_i16(&[0x80, 0x80, 0x04], 0), Ok((-32768, 3)));
+    assert_eq!(read_i16(&[0xFF, 0xFF, 0x03], 0), Ok((-32768, 3)));
+    assert_eq!(read_i16(&[0x80, 0x80, 0x04], 0), Err(Refusal::RANGE));
     assert_eq!(read_le64(&[1, 0, 0, 0, 0, 0, 0, 0x80], 0), Ok((0x8000_0000_0000_0001, 8)));
     for n in [i32::MIN, -1, 0, i32::MAX] {
         assert_eq!(zigzag_to_i32(i32_to_zigzag(n)), n);
