@@ -224,59 +224,82 @@ fn is_wide_id(s: &[u8], at: usize) -> bool {
     s.get(at).is_some_and(|b| (1..14).contains(b)) && is_wide(s, at + 1)
 }
 
-/// Reads a value by the crate's own headers: Ok(true) where an i16 or a field's id is wide, before elements of type Stop, the depth limit or anything that the crate refuses.
-fn meets_wide<P: TInputProtocol>(p: &mut P, s: &[u8], at: &Cell<usize>, t: TType, room: u32) -> Result<bool, Error> {
+/// The fewest bytes of a container's elements.
+fn least(kinds: &[TType], n: i32) -> usize {
+    kinds.iter().map(|t| match t { TType::Double => 8, TType::Uuid => 16, _ => 1 }).sum::<usize>() * n as usize
+}
+
+/// A container's header by the crate: its types, none in an empty map, and its count.
+fn header<P: TInputProtocol>(p: &mut P, t: TType) -> Result<(Vec<TType>, i32), Error> {
+    match t {
+        TType::List => p.read_list_begin().map(|l| (vec![l.element_type], l.size)),
+        TType::Set => p.read_set_begin().map(|l| (vec![l.element_type], l.size)),
+        _ => p.read_map_begin().map(|m| (m.key_type.into_iter().chain(m.value_type).collect(), m.size)),
+    }
+}
+
+/// Reads a value by the crate's own headers. The refusal of a rule that the crate does not have, where one is broken before elements of type Stop, the depth limit or anything
+/// that the crate refuses: 17 where an i16 or a field's id is wide, 1 where a container's elements can't be in the bytes left.
+fn meets<P: TInputProtocol>(p: &mut P, s: &[u8], at: &Cell<usize>, t: TType, room: u32) -> Result<Option<u8>, Error> {
     let refused = |kind| Error::Protocol(thrift::ProtocolError { kind, message: String::new() });
     let inner = if matches!(t, TType::List | TType::Set | TType::Map | TType::Struct) { room.checked_sub(1).ok_or_else(|| refused(PK::DepthLimit))? } else { room };
-    let many = |p: &mut P, kinds: &[TType], n: i32| -> Result<bool, Error> {
-        if n > 0 && kinds.contains(&TType::Stop) {
-            return Err(refused(PK::InvalidData));
-        }
-        for _ in 0..n {
-            for t in kinds {
-                if meets_wide(p, s, at, *t, inner)? {
-                    return Ok(true);
-                }
-            }
-        }
-        Ok(false)
-    };
     match t {
         TType::Struct => {
             p.read_struct_begin()?;
             loop {
                 if is_wide_id(s, at.get()) {
-                    return Ok(true);
+                    return Ok(Some(17));
                 }
                 let f = p.read_field_begin()?;
                 if f.field_type == TType::Stop {
-                    return p.read_struct_end().map(|_| false);
+                    return p.read_struct_end().map(|_| None);
                 }
-                if meets_wide(p, s, at, f.field_type, inner)? {
-                    return Ok(true);
+                if let Some(why) = meets(p, s, at, f.field_type, inner)? {
+                    return Ok(Some(why));
                 }
             }
         }
-        TType::List => p.read_list_begin().and_then(|l| many(p, &[l.element_type], l.size)),
-        TType::Set => p.read_set_begin().and_then(|l| many(p, &[l.element_type], l.size)),
-        TType::Map => p.read_map_begin().and_then(|m| many(p, &[m.key_type.unwrap_or(TType::Stop), m.value_type.unwrap_or(TType::Stop)], m.size)),
-        TType::I16 if is_wide(s, at.get()) => Ok(true),
-        other => p.skip(other).map(|_| false),
+        TType::List | TType::Set | TType::Map => {
+            let (kinds, n) = header(p, t)?;
+            if least(&kinds, n) > s.len() - at.get() {
+                return Ok(Some(1));
+            }
+            if n > 0 && kinds.contains(&TType::Stop) {
+                return Err(refused(PK::InvalidData));
+            }
+            for _ in 0..n {
+                for t in &kinds {
+                    if let Some(why) = meets(p, s, at, *t, inner)? {
+                        return Ok(Some(why));
+                    }
+                }
+            }
+            Ok(None)
+        }
+        TType::I16 if is_wide(s, at.get()) => Ok(Some(17)),
+        other => p.skip(other).map(|_| None),
     }
 }
 
-/// Whether a call meets a number of an i16 that is out of its range before anything else is refused: the cause of D28, found by the crate's own reading.
-fn out_of_range(s: &[u8], at: usize, c: Call, limits: port::TConfiguration, depth: u32) -> bool {
+/// The refusal of a rule that the crate does not have, where a call breaks it before anything else is refused: the cause of D28 and D29, found by the crate's own reading.
+fn broken(s: &[u8], at: usize, c: Call, limits: port::TConfiguration, depth: u32) -> Option<u8> {
+    let place = Cell::new(at);
+    let reader = || TCompactInputProtocol::with_config(Tap(s, &place), free(limits));
+    let counted = |t| header(&mut reader(), t).ok().filter(|(kinds, n)| least(kinds, *n) > s.len() - place.get()).map(|_| 1);
     match c {
-        I16 => is_wide(s, at),
-        Field => is_wide_id(s, at),
-        Skip(t) => {
-            let place = Cell::new(at);
-            let mut p = TCompactInputProtocol::with_config(Tap(s, &place), free(limits));
-            matches!(meets_wide(&mut p, s, &place, TYPES[t].1, limits.depth - depth), Ok(true))
-        }
-        _ => false,
+        I16 => is_wide(s, at).then_some(17),
+        Field => is_wide_id(s, at).then_some(17),
+        List => counted(TType::List),
+        Set => counted(TType::Set),
+        Map => counted(TType::Map),
+        Skip(t) => meets(&mut reader(), s, &place, TYPES[t].1, limits.depth - depth).unwrap_or(None),
+        _ => None,
     }
+}
+
+/// The number of the difference that such a refusal is.
+fn ruled(why: u8) -> &'static str {
+    if why == 17 { "D28" } else { "D29" }
 }
 
 /// The crate's limits with none on depth.
@@ -301,8 +324,8 @@ fn skip_difference(s: &[u8], at: usize, limits: port::TConfiguration, t: usize, 
         (_, Err(10)) => {
             let mut wide = port::TCompactInputProtocol::with_config(&s[at..], port::TConfiguration { depth: 64, ..limits });
             let unlimited = wide.skip(TYPES[t].0).map(|_| (V::Unit, at + wide.place())).map_err(|e| e.number());
-            let wide = || out_of_range(s, at, Skip(t), port::TConfiguration { depth: 64, ..limits }, 0);
-            if unlimited == *theirs || unlimited == Err(17) && wide() {
+            let rule = broken(s, at, Skip(t), port::TConfiguration { depth: 64, ..limits }, 0);
+            if unlimited == *theirs || rule.is_some_and(|why| unlimited == Err(why)) {
                 return Some(if depth > 0 { "D4" } else if limits.depth == 0 { "D2" } else { "D3" });
             }
             let mut p = TCompactInputProtocol::with_config(Tap(s, &place), free);
@@ -380,13 +403,13 @@ fn reads(t: &mut Tally, s: &[u8], limits: port::TConfiguration, calls: &mut dyn 
                 t.fail(format!("a refusal moved the state: {made:?} on {s:02x?}"));
             }
         }
-        let wide = !pending && out_of_range(s, start, c, limits, depth);
-        if wide != (b == Err(17)) {
-            t.fail(format!("{made:?} limits {limits:?} on {s:02x?}: a number out of range {wide}, port {b:?}"));
+        let rule = if pending { None } else { broken(s, start, c, limits, depth) };
+        if rule.map_or(b == Err(17), |why| b != Err(why)) {
+            t.fail(format!("{made:?} limits {limits:?} on {s:02x?}: the rule says {rule:?}, port {b:?}"));
         }
         if a != b {
             let known = match c {
-                _ if wide => Some("D28"),
+                _ if rule.is_some() => rule.map(ruled),
                 // A bool field's value waits, and another call comes: out of the grammar's order, since the bytes are not what the caller takes them for.
                 Skip(0) if pending && b == Err(12) => Some("D10"),
                 _ if pending && b == Err(12) && c != Bool => Some("D8"),
@@ -740,8 +763,8 @@ fn picks(t: &mut Tally, r: &mut Rng, s: &[u8], limits: port::TConfiguration) {
     let mut skips = port::TCompactInputProtocol::with_config(s, limits);
     let skipped = skips.skip(port::TType::Struct).map_err(|e| e.number());
     t.picked += 1;
-    if out_of_range(s, 0, Skip(11), limits, 0) {
-        if answer == Err(17) { t.difference("D28") } else { t.fail(format!("pick {answer:?} of a number out of range, limits {limits:?} on {s:02x?}")) }
+    if let Some(why) = broken(s, 0, Skip(11), limits, 0) {
+        if answer == Err(why) { t.difference(ruled(why)) } else { t.fail(format!("pick {answer:?} where the rule says {why}, limits {limits:?} on {s:02x?}")) }
     }
     if (answer, ours.place()) != (skipped, skips.place()) {
         t.fail(format!("pick {answer:?} where skip is {skipped:?}, limits {limits:?} on {s:02x?}"));
@@ -804,6 +827,37 @@ fn main() {
                 for code in 0..16 {
                     every_call(&mut t, &[&[code], &z[..], &[5, 0, 0]].concat(), WIDE);
                     every_call(&mut t, &[&[0x1c, code], &z[..], &[5, 0, 0, 0]].concat(), WIDE);
+                }
+            }
+        }
+    }
+    // counts about the bytes left: each type, alone, as an element and as a field; each pair of types
+    let padded = |head: &[u8], n: usize| { let mut s = head.to_vec(); s.resize(head.len() + n, 0); s };
+    for kind in 0..14u8 {
+        for count in [1u8, 2, 3, 14] {
+            let need = count as usize * if kind == 7 { 8 } else if kind == 13 { 16 } else { 1 };
+            for have in [0, need - 1, need, need + 1] {
+                for head in [&[count << 4 | kind][..], &[0xf0 | kind, count], &[0xf0 | kind, 0x80 | count, 0x00], &[0x19, count << 4 | kind], &[0x1a, 0xf0 | kind, count]] {
+                    every_call(&mut t, &padded(head, have), WIDE);
+                }
+            }
+        }
+        for other in 0..14u8 {
+            for count in [1u8, 2] {
+                let need = count as usize * [kind, other].map(|k| if k == 7 { 8 } else if k == 13 { 16 } else { 1 }).iter().sum::<usize>();
+                for have in [0, need - 1, need, need + 1] {
+                    every_call(&mut t, &padded(&[count, kind << 4 | other], have), WIDE);
+                    every_call(&mut t, &padded(&[0x1b, count, kind << 4 | other], have), WIDE);
+                }
+            }
+        }
+        // products of 32 bits and more, and counts over a limit or below 0
+        for count in [&[0x80, 0x80, 0x80, 0x80, 0x01][..], &[0x80, 0x80, 0x80, 0x80, 0x02], &[0x80, 0xa8, 0xd6, 0xb9, 0x07], &[0xff, 0xff, 0xff, 0xff, 0x07], &[0xff, 0xff, 0xff, 0xff, 0x0f], &[0x65], &[0x64]] {
+            for limits in [WIDE, port::TConfiguration { container: 100, ..WIDE }] {
+                for have in [0, 16, 34] {
+                    every_call(&mut t, &padded(&[&[0xf0 | kind], count].concat(), have), limits);
+                    every_call(&mut t, &padded(&[count, &[kind << 4 | 13]].concat(), have), limits);
+                    every_call(&mut t, &padded(&[&[0x19, 0xf0 | kind], count].concat(), have), limits);
                 }
             }
         }
@@ -906,7 +960,7 @@ fn main() {
     // nestings around the limit, entered by skip and by struct calls
     for (depth, begun) in [(64, 0), (64, 1), (64, 2), (3, 0), (3, 1), (0, 0), (1, 1)] {
         for n in 0..70usize {
-            for inner in [&[0x13, 0][..], &[0x03], &[0x10], &[0x1C, 0], &[0x15, 2], &[0x11, 1], &[0x1B, 1, 0x30]] {
+            for inner in [&[0x13, 0][..], &[0x03], &[0x10], &[0x10, 0], &[0x1C, 0], &[0x15, 2], &[0x11, 1], &[0x1B, 1, 0x30], &[0x1B, 1, 0x30, 0, 0]] {
                 let s = [&vec![0x19; n][..], inner].concat();
                 let limits = port::TConfiguration { depth, ..WIDE };
                 let mut i = 0;
@@ -954,12 +1008,13 @@ fn main() {
             if b == Err(15) { t.difference("D13") } else { t.fail(format!("{c:?} under {limits:?}: port {b:?}")) }
         }
     }
-    // the crate's limit on a message, which has no equal in the port
-    for (c, s) in [(List, &[0xf7, 0x81, 0x80, 0xa0, 0x06][..]), (List, &[0xf3, 0x81, 0x80, 0x80, 0x32]), (Map, &[0x81, 0x80, 0xc8, 0x01, 0xdd])] {
+    // the crate's limit on a message, which has no equal in the port; the elements are there
+    for (c, head) in [(List, &[0xf7, 0x81, 0x80, 0xa0, 0x06][..]), (List, &[0xf3, 0x81, 0x80, 0x80, 0x32]), (Map, &[0x81, 0x80, 0xc8, 0x01, 0xdd])] {
+        let s = &padded(head, 104_857_632)[..];
         let place = Cell::new(0);
         let a = by_crate(&mut TCompactInputProtocol::with_config(Tap(s, &place), thrift::TConfiguration::default()), &place, c);
         let b = by_port(&mut port::TCompactInputProtocol::with_config(s, WIDE), c);
-        if a == Err(8) && b.is_ok() { t.difference("D7") } else { t.fail(format!("{c:?} on {s:02x?}: crate {a:?}, port {b:?}")) }
+        if a == Err(8) && b.is_ok() { t.difference("D7") } else { t.fail(format!("{c:?} on {head:02x?}: crate {a:?}, port {b:?}")) }
     }
 
     println!("seed {seed}");

@@ -34,7 +34,7 @@ extern "C" {
 enum { TAGRUMZIL_ROW = 5, TAGRUMZIL_IDS = 64 };
 
 enum {
-    TAGRUMZIL_END = 1,              /* a byte needed lies past the input */
+    TAGRUMZIL_END = 1,              /* a byte needed lies past the input, or a container's elements can't be in what is left of it */
     TAGRUMZIL_BAD_VERSION = 2,      /* the first message byte is not 0x82, or the version is not 1 */
     TAGRUMZIL_BAD_MESSAGE_TYPE = 3, /* a message type out of 1 to 4 */
     TAGRUMZIL_BAD_TYPE = 4,         /* a code without a type; stop where a value's type is asked */
@@ -101,10 +101,11 @@ uint8_t tagrumzil_read_double(const uint8_t *s, size_t n, uint64_t *row, size_t 
 uint8_t tagrumzil_read_uuid(const uint8_t *s, size_t n, uint64_t *row, size_t m, size_t *start, size_t *end);
 uint8_t tagrumzil_read_bytes(const uint8_t *s, size_t n, uint64_t *row, size_t m, size_t *start, size_t *end);
 uint8_t tagrumzil_read_string(const uint8_t *s, size_t n, uint64_t *row, size_t m, size_t *start, size_t *end);
-/* A list's or a set's header: its elements' type, and how many there are. */
+/* A list's or a set's header: its elements' type, and how many there are. Where they can't be there, by 16 bytes for a uuid, 8 for a double and 1 for any
+ * other, END: room may be reserved by the count. */
 uint8_t tagrumzil_read_list_begin(const uint8_t *s, size_t n, uint64_t *row, size_t m, uint8_t *kind, uint32_t *count);
 uint8_t tagrumzil_read_set_begin(const uint8_t *s, size_t n, uint64_t *row, size_t m, uint8_t *kind, uint32_t *count);
-/* A map's header: its keys' and values' types, both 0 in an empty map, and how many pairs there are. */
+/* A map's header: its keys' and values' types, both 0 in an empty map, and how many pairs there are; END alike. */
 uint8_t tagrumzil_read_map_begin(const uint8_t *s, size_t n, uint64_t *row, size_t m, uint8_t *key, uint8_t *value, uint32_t *count);
 /* Passes over one value of a type. It succeeds exactly on a well-formed value within the limits. A bool that waits is taken by a skip of bool. */
 uint8_t tagrumzil_skip(const uint8_t *s, size_t n, uint64_t *row, size_t m, uint8_t kind);

@@ -411,6 +411,16 @@ TYPES = {'stop': 0, 'bool': 1, 'i8': 3, 'i16': 4, 'i32': 5, 'i64': 6, 'double': 
 LIMITS = 'R 64 2147483647 2147483647 -'
 
 
+def backed(header, read):
+    """A header with as many bytes behind it as its elements need, where these are at most 300."""
+    walk = rules.Walk(header + bytes(300), 0, rows.WIDE)
+    try:
+        need = rules.least(*read(walk))
+    except rules.Refused:
+        return header
+    return header + bytes(need) if walk.at == len(header) else header
+
+
 def call_rows():
     """(title, call, [rows of bytes])"""
     every = [bytes([b]) for b in range(256)]
@@ -421,11 +431,16 @@ def call_rows():
     yield 'field: past 32767', 'field', [b'\x05' + uleb(zigzag(n)) + bytes([d << 4 | 5]) for n in range(32750, 32768) for d in (1, 8, 15)]
     yield 'field: cut short', 'field', [b'', b'\x05', b'\x01\x80', b'\x05\xff\xff', b'\x0e', b'\x0f\x80', b'\x05' + b'\xff' * 5]
     counts = [uleb(n) for n in (0, 1, 14, 15, 16, 127, 128, 16384, (1 << 31) - 1, 1 << 31, (1 << 32) - 1)] + [b'\x80\x00', b'\x8f\x00', b'\xff' * 5, b'\x80', b'']
+    first = {b: rules.least(b & 15, b >> 4) if b >> 4 < 15 and b & 15 <= rules.UUID else 0 for b in range(256)}
     for name in ('list', 'set'):
-        yield f'{name}: every first byte', name, every
-        yield f'{name}: counts behind it', name, [bytes([0xf0 | t]) + n for t in (0, 1, 2, 5, 13, 14, 15) for n in counts]
-    yield 'map: counts, with types and without', 'map', [n + tail for n in counts for tail in (b'', b'\x85', b'\x12', b'\x00', b'\xe5', b'\x5e', b'\xff')]
-    yield 'map: every byte of types', 'map', [b'\x01' + bytes([b]) for b in range(256)]
+        yield f'{name}: every first byte, and as many bytes behind it as its elements need', name, [bytes([b]) + bytes(n) for b, n in first.items()]
+        yield f'{name}: a byte fewer', name, [bytes([b]) + bytes(n - 1) for b, n in first.items() if n and (name == 'list' or b >> 4 in (1, 14))]
+        yield f'{name}: counts behind it, and the elements\' bytes where they are few', name, [backed(bytes([0xf0 | t]) + n, rules.Walk.items) for t in (0, 1, 2, 5, 7, 13, 14, 15) for n in counts]
+    yield 'map: counts, with types and without, and the elements\' bytes where they are few', 'map', [
+        backed(n + tail, rules.Walk.pairs) for n in counts for tail in (b'', b'\x85', b'\x12', b'\x00', b'\xe5', b'\x5e', b'\xff')]
+    both = [backed(b'\x01' + bytes([b]), rules.Walk.pairs) for b in range(256)]
+    yield 'map: every byte of types, and as many bytes behind it as its elements need', 'map', both
+    yield 'map: a byte fewer', 'map', [row[:-1] for row in both if len(row) > 2]
     names = [b'\x00', b'\x01t', b'\x03abc', b'\x02\xc3\xa9', b'\x01\xc3', b'\x02\xc3', b'', b'\x80\x00', b'\x05ab', b'\xff\xff\xff\xff\x0f', b'\xff\xff\xff\xff\x07']
     yield 'message: every second byte', 'message', [bytes([0x82, b, 1, 1]) + b't' for b in range(256)]
     yield 'message: sequence numbers and names', 'message', [b'\x82\x21' + n + name for n in counts for name in names]
@@ -484,7 +499,8 @@ def ruled(row, call, parts):
     for at, each in parts:
         rule = rules.broken(row, at, call, rows.WIDE)
         if rule:
-            return [(f'# {rule.difference}, the crate: {answer}', None)], ' '.join(kept + [f'refused {rule.why}'])
+            own = ' '.join(kept + [f'refused {rule.why}'])
+            return [(f'# {rule.difference}, the crate: {answer}', None)] if own != answer else [], own
         kept.append(each)
     return [], answer
 

@@ -4,22 +4,30 @@ The crate answers every case. On top of its answer stands `broken`: it walks a c
 alone, where nothing before them breaks one that the crate has as well. It answers the refusal's number, the difference's number in docs/DIFFERENCES.md and the place where
 those bytes begin. A rule more is a `raise Refused` in `Walk`, with the number of its difference and that place, and a cause in `checked` for the crate to confirm.
 The crate has a word on both halves of what is found. Given the bytes before that place, it misses a byte: so it refused nothing up to there. And the cause is its own: of
-an i16 out of range, its i32 call reads a number outside 16 bits (`checked`).
+an i16 out of range, its i32 call reads a number outside 16 bits; of a count that can't be there, its header call reads the types and the count (`checked`).
 """
 from collections import namedtuple
 
 END, BAD_VERSION, BAD_MESSAGE_TYPE, BAD_TYPE, BAD_BOOL, LONG_VARINT, FIELD_ID, SIZE_LIMIT, NEGATIVE, DEPTH, BAD_UTF8, RANGE = 1, 2, 3, 4, 5, 6, 7, 8, 9, 10, 11, 17
 STOP, BOOL, I8, I16, I32, I64, DOUBLE, STRING, LIST, SET, MAP, STRUCT, UUID = 0, 1, 3, 4, 5, 6, 7, 8, 9, 10, 11, 12, 13
 
-Broken = namedtuple('Broken', 'why difference begins')
+LEAST = {DOUBLE: 8, UUID: 16}
+
+Broken = namedtuple('Broken', 'why difference begins by')
 found = {}
 
 
-class Refused(Exception):
-    """A refusal's number; where the crate has no such rule, the difference's number and the place at which the bytes begin that break it."""
+def least(*header):
+    """The fewest bytes of a container's elements, by its types and its count."""
+    *kinds, count = header
+    return count * sum(LEAST.get(kind, 1) for kind in kinds)
 
-    def __init__(self, why, difference=None, begins=None):
-        self.why, self.difference, self.begins = why, difference, begins
+
+class Refused(Exception):
+    """A refusal's number; where the crate has no such rule, the difference's number, the place at which the bytes begin that break it, and the call by which the crate shows it."""
+
+    def __init__(self, why, difference=None, begins=None, by=None):
+        self.why, self.difference, self.begins, self.by = why, difference, begins, by
 
 
 class Walk:
@@ -51,7 +59,7 @@ class Walk:
         begins, n = self.at, self.varint(32)
         n = n // 2 if n % 2 == 0 else -(n + 1) // 2
         if not -32768 <= n <= 32767:
-            raise Refused(RANGE, 'D28', begins)
+            raise Refused(RANGE, 'D28', begins, 'i32')
         return n
 
     def length(self):
@@ -100,17 +108,23 @@ class Walk:
             raise Refused(BAD_TYPE)
         return BOOL if code == 2 else code
 
+    def backed(self, begins, by, *header):
+        """ "With a count over 0 .. refused END when the count times the least size exceeds the bytes left after the header." """
+        if least(*header) > len(self.data) - self.at:
+            raise Refused(END, 'D29', begins, by)
+        return header
+
     def items(self):
-        b = self.byte()
+        begins, b = self.at, self.byte()
         kind = self.element(b & 15)
-        return kind, self.count(self.varint(32) if b >> 4 == 15 else b >> 4)
+        return self.backed(begins, 'list', kind, self.count(self.varint(32) if b >> 4 == 15 else b >> 4))
 
     def pairs(self):
-        n = self.varint(32)
+        begins, n = self.at, self.varint(32)
         if n == 0:
             return STOP, STOP, 0
         b = self.byte()
-        return self.element(b >> 4), self.element(b & 15), self.count(n)
+        return self.backed(begins, 'map', self.element(b >> 4), self.element(b & 15), self.count(n))
 
     def skip(self, kind):
         if kind in (LIST, SET, MAP, STRUCT):
@@ -166,7 +180,7 @@ def broken(data, at, call, limits):
         Walk(data, at, limits).call(*call)
     except Refused as no:
         if no.difference:
-            found[bytes(data), at, call, limits] = Broken(no.why, no.difference, no.begins)
+            found[bytes(data), at, call, limits] = Broken(no.why, no.difference, no.begins, no.by)
             return found[bytes(data), at, call, limits]
     return None
 
@@ -178,10 +192,19 @@ def checked(crate, words):
     lines = [f'R {" ".join(map(str, limits))} - {data[at:rule.begins].hex() or "-"} {spelt(call)}' for (data, at, call, limits), rule in cases]
     for (key, rule), both in zip(cases, words(lines)):
         assert all(w.split(' ; ')[0] == '!1' for w in both), (key, rule, both)
-    wide = [(data, rule) for (data, *_), rule in found.items() if rule.why == RANGE]
-    for (data, rule), told in zip(wide, crate([(data, ['i8'] * rule.begins + ['i32']) for data, rule in wide])):
-        assert not isinstance(told, int) and not -32768 <= int(told[0]) <= 32767, (data.hex(), rule, told)
+    causes = list(dict.fromkeys((data, rule) for (data, *_), rule in found.items()))
+    for (data, rule), told in zip(causes, crate([(data, ['i8'] * rule.begins + [rule.by]) for data, rule in causes])):
+        assert not isinstance(told, int) and is_cause(rule, told, len(data)), (data.hex(), rule, told)
     return len(found)
 
 
+def is_cause(rule, told, length):
+    """Whether what the crate reads at the place, (value, the place behind it), is such as the rule refuses."""
+    if rule.by == 'i32':
+        return not -32768 <= int(told[0]) <= 32767
+    *kinds, count = told[0].split(',')
+    return least(*[NUMBERS[kind] for kind in kinds], int(count)) > length - told[1]
+
+
 NAMES = {0: 'stop', 1: 'bool', 3: 'i8', 4: 'i16', 5: 'i32', 6: 'i64', 7: 'double', 8: 'string', 9: 'list', 10: 'set', 11: 'map', 12: 'struct', 13: 'uuid'}
+NUMBERS = {name: number for number, name in NAMES.items()}

@@ -3,4 +3,6 @@ pub mod Steps
 pub mod Cases
 pub mod Fields
 pub mod Readers
+pub mod Ahead
+pub mod Samples
 pub mod Tails

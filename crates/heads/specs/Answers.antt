@@ -15,7 +15,7 @@ use Rattle.types.specs.declared.FieldId.{FieldId}
 use Rattle.types.specs.declared.SeqNo.{SeqNo}
 use Rattle.numbers.specs.Varint.{Found, got, refused, placed}
 use Rattle.heads.specs.Reader.{readAt, some}
-use Rattle.heads.specs.Heads.{int8, int16, int32, int64, double, truth, uuid, binary, text, counted, listed, items, mapped, pairs, Field, stop, bool, value, field, Message, named, versioned, message}
+use Rattle.heads.specs.Heads.{int8, int16, int32, int64, double, truth, uuid, binary, text, counted, listed, items, mapped, pairs, itemsHead, pairsHead, Field, stop, bool, value, field, Message, named, versioned, message}
 use Rattle.heads.specs.declared.I8Read.{I8Read}
 use Rattle.heads.specs.declared.I8Read.the-variants as I8
 use Rattle.heads.specs.declared.I16Read.{I16Read}
@@ -135,6 +135,13 @@ mappedAt s lim n at = toMap (readAt (mapped lim n) s at)
 
 unfoldable pub pairsAt : List ℕ → TConfiguration → ℕ → MapHead
 pairsAt s lim at = toMap (readAt (pairs lim) s at)
+
+-- the same where the count's least bytes are ahead
+unfoldable pub itemsHeadAt : List ℕ → TConfiguration → ℕ → ListHead
+itemsHeadAt s lim at = toList (readAt (itemsHead lim) s at)
+
+unfoldable pub pairsHeadAt : List ℕ → TConfiguration → ℕ → MapHead
+pairsHeadAt s lim at = toMap (readAt (pairsHead lim) s at)
 
 -- fields
 abbrev pub toField : Found Field → FieldHead

@@ -1,6 +1,6 @@
 -- What the bytes of a scalar and of a header say: the compact protocol document as the scope paper reads it, under "Numbers" and "Headers".
 -- Assumes nothing: these are definitions.
-use Prim.Native.Nat.{ℕ, _/_, _%_}
+use Prim.Native.Nat.{ℕ, _+_, _*_, _/_, _%_}
 use mathlib.Core.Bool.{Bool, true, false, cond}
 use mathlib.Core.List.{List}
 use lib.Dec.{eqb, leb, ltb}
@@ -24,7 +24,7 @@ use Rattle.numbers.specs.Varint.{varint}
 use Rattle.zigzag.specs.Zigzag.{unzigzag, inRange16}
 use Rattle.numbers.specs.Fixed.{little}
 use Rattle.utf8.specs.Utf8.{utf8}
-use Rattle.heads.specs.Reader.{Reader, done, refuse, andThen, provided, byte, some}
+use Rattle.heads.specs.Reader.{Reader, done, refuse, andThen, provided, byte, some, backed}
 
 -- "Values of type i8 are encoded as one byte"
 unfoldable pub int8 : Reader ℤ
@@ -99,6 +99,30 @@ mapped lim n =
 -- "Map: count varint; 0 ends it, without types" (Stop stands for each that is not there)
 unfoldable pub pairs : TConfiguration → Reader (TType × TType × ℕ)
 pairs lim = andThen number32 (λ n. cond (eqb n 0) (done (T.Stop, T.Stop, 0)) (mapped lim n))
+
+-- the fewest bytes of a value: "8 for double, 16 for uuid, 1 for every other type"
+abbrev pub leastSize : TType → ℕ
+leastSize T.Stop = 1
+leastSize T.Bool = 1
+leastSize T.I08 = 1
+leastSize T.I16 = 1
+leastSize T.I32 = 1
+leastSize T.I64 = 1
+leastSize T.Double = 8
+leastSize T.String = 1
+leastSize T.List = 1
+leastSize T.Set = 1
+leastSize T.Map = 1
+leastSize T.Struct = 1
+leastSize T.Uuid = 16
+
+-- "refused END when the count times the least size exceeds the bytes left after the header", "checked after NEGATIVE SIZE and SIZE LIMIT"
+unfoldable pub itemsHead : TConfiguration → Reader (TType × ℕ)
+itemsHead lim = backed (λ h. h .1 * leastSize (h .0)) (items lim)
+
+-- "key plus value for a map"
+unfoldable pub pairsHead : TConfiguration → Reader (TType × TType × ℕ)
+pairsHead lim = backed (λ h. h .2 * leastSize (h .0) + h .2 * leastSize (h .1)) (pairs lim)
 
 -- what a field's header says: the struct ends; a bool field, with its value; a field of another type
 pub data Field : Type 0 where

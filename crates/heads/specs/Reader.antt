@@ -41,6 +41,14 @@ byte (b ∷ bs) = got b 1
 unfoldable pub some : ℕ → Reader (List ℕ)
 some n bs = cond (leb n (length bs)) (got (take n bs) n) (refused END)
 
+-- a value for no byte, where n bytes are ahead: END where "the bytes left" are fewer
+unfoldable pub ahead : {A : Type 0} → ℕ → A → Reader A
+ahead n a bs = cond (leb n (length bs)) (got a 0) (refused END)
+
+-- what is read, where the bytes that it calls for are ahead
+unfoldable pub backed : {A : Type 0} → (A → ℕ) → Reader A → Reader A
+backed need p = andThen p (λ a. ahead (need a) a)
+
 -- these bytes are read whole, as a
 abbrev pub Whole : {A : Type 0} → Reader A → A → List ℕ → Type 0
 Whole p a bs = p bs ≡ got a (length bs)

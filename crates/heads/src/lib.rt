@@ -1,9 +1,10 @@
 // Headers and scalars, read at a place of the lent bytes, with no state: the bodies of the Rust's `read_*`. Each answers what it found and
 // the place behind it, or the number of a refusal.
 ghost use mathlib.Core.Path.{_≡_};
-ghost use Prim.Native.Nat.{_≤_, _<_};
+ghost use Prim.Native.Nat.{_*_, _≤_, _<_};
 ghost use lib.ListN.{length};
-ghost use Rattle.heads.specs.Answers.{int8At, int16At, int32At, int64At, doubleAt, truthAt, someAt, uuidAt, binaryAt, textAt, countWhy, listedAt, itemsAt, mappedAt, pairsAt, headAt, longAt, fieldAt, kindAt, messageAt, namedAt};
+ghost use Rattle.heads.specs.Heads.{leastSize};
+ghost use Rattle.heads.specs.Answers.{int8At, int16At, int32At, int64At, doubleAt, truthAt, someAt, uuidAt, binaryAt, textAt, countWhy, listedAt, itemsAt, mappedAt, pairsAt, itemsHeadAt, pairsHeadAt, headAt, longAt, fieldAt, kindAt, messageAt, namedAt};
 use numbers::Bits64;
 use numbers::Int16;
 use numbers::Varint32;
@@ -218,7 +219,30 @@ fn listed(kind: TType, n: u32, next: usize, limits: TConfiguration) -> ListHead
     ListHead::Got(kind, n, Place(next))
 }
 
-pub fn read_list_begin(s: &[u8], place: Place, limits: TConfiguration) -> ListHead
+// The fewest bytes that so many values of a type take. The count has 32 bits, so that the product is far from 64.
+fn least_bytes(count: u32, kind: TType) -> usize
+    ensures { λ r. ⌜ (r ≡ count * leastSize kind) × (r < 0x10_0000_0000) ⌝ }
+{
+    let n = count as usize;
+    match kind {
+        TType::Double => n * 8,
+        TType::Uuid => n * 16,
+        TType::Stop => n,
+        TType::Bool => n,
+        TType::I08 => n,
+        TType::I16 => n,
+        TType::I32 => n,
+        TType::I64 => n,
+        TType::String => n,
+        TType::List => n,
+        TType::Set => n,
+        TType::Map => n,
+        TType::Struct => n,
+    }
+}
+
+// What a list's header says, whatever stands behind it.
+fn list_header(s: &[u8], place: Place, limits: TConfiguration) -> ListHead
     ensures { λ r. ⌜ r ≡ itemsAt (now (s .entry)) limits (place .0) ⌝ }
 {
     let at = place.0;
@@ -237,6 +261,21 @@ pub fn read_list_begin(s: &[u8], place: Place, limits: TConfiguration) -> ListHe
                 Varint32::Refused(why) => ListHead::Refused(why),
                 Varint32::Got(n, next) => listed(kind, n, next, limits),
             }
+        }
+    }
+}
+
+// A header whose elements can't be there is refused, before a caller reserves room for them.
+pub fn read_list_begin(s: &[u8], place: Place, limits: TConfiguration) -> ListHead
+    ensures { λ r. ⌜ r ≡ itemsHeadAt (now (s .entry)) limits (place .0) ⌝ }
+{
+    match list_header(s, place, limits) {
+        ListHead::Refused(why) => ListHead::Refused(why),
+        ListHead::Got(kind, count, next) => {
+            if numbers::lacks_room(s.len(), next.0, least_bytes(count, kind)) {
+                return ListHead::Refused(types::END);
+            }
+            ListHead::Got(kind, count, next)
         }
     }
 }
@@ -264,7 +303,8 @@ fn mapped(s: &[u8], n: u32, at: usize, limits: TConfiguration) -> MapHead
     }
 }
 
-pub fn read_map_begin(s: &[u8], place: Place, limits: TConfiguration) -> MapHead
+// What a map's header says, whatever stands behind it.
+fn map_header(s: &[u8], place: Place, limits: TConfiguration) -> MapHead
     ensures { λ r. ⌜ r ≡ pairsAt (now (s .entry)) limits (place .0) ⌝ }
 {
     match numbers::read_varint32(s, place.0) {
@@ -274,6 +314,24 @@ pub fn read_map_begin(s: &[u8], place: Place, limits: TConfiguration) -> MapHead
                 return MapHead::Got(TType::Stop, TType::Stop, 0, Place(next));
             }
             mapped(s, n, next, limits)
+        }
+    }
+}
+
+pub fn read_map_begin(s: &[u8], place: Place, limits: TConfiguration) -> MapHead
+    ensures { λ r. ⌜ r ≡ pairsHeadAt (now (s .entry)) limits (place .0) ⌝ }
+{
+    match map_header(s, place, limits) {
+        MapHead::Refused(why) => MapHead::Refused(why),
+        MapHead::Got(key, value, count, next) => {
+            if numbers::lacks_room(
+                s.len(),
+                next.0,
+                least_bytes(count, key) + least_bytes(count, value),
+            ) {
+                return MapHead::Refused(types::END);
+            }
+            MapHead::Got(key, value, count, next)
         }
     }
 }

@@ -18,7 +18,7 @@ use Rattle.types.specs.declared.TConfiguration.{TConfiguration}
 use Rattle.types.specs.declared.TMessageType.{TMessageType}
 use Rattle.types.specs.declared.TType.{TType}
 use Rattle.types.specs.declared.TType.the-variants as T
-use Rattle.heads.specs.Answers.{place, idOf, int8At, int16At, int32At, int64At, doubleAt, truthAt, uuidAt, binaryAt, textAt, itemsAt, pairsAt, fieldAt, messageAt}
+use Rattle.heads.specs.Answers.{place, idOf, int8At, int16At, int32At, int64At, doubleAt, truthAt, uuidAt, binaryAt, textAt, itemsHeadAt, pairsHeadAt, fieldAt, messageAt}
 use Rattle.heads.specs.declared.BoolRead.{BoolRead}
 use Rattle.heads.specs.declared.BoolRead.the-variants as hB
 use Rattle.heads.specs.declared.I8Read.{I8Read}
@@ -104,10 +104,10 @@ module _ (s row : List ℕ) (clear : Open row) (at : ℕ) (p : at ≡ getD row 0
     pub string-at : (r : PartRead) → r ≡ textAt s lim at → r ≡ textAt s (readerOf row .limits) (readerOf row .place .0)
     string-at r e = rw (← within, ← here) e
 
-    pub list-at : (r : ListHead) → r ≡ itemsAt s lim at → r ≡ itemsAt s (readerOf row .limits) (readerOf row .place .0)
+    pub list-at : (r : ListHead) → r ≡ itemsHeadAt s lim at → r ≡ itemsHeadAt s (readerOf row .limits) (readerOf row .place .0)
     list-at r e = rw (← within, ← here) e
 
-    pub map-at : (r : MapHead) → r ≡ pairsAt s lim at → r ≡ pairsAt s (readerOf row .limits) (readerOf row .place .0)
+    pub map-at : (r : MapHead) → r ≡ pairsHeadAt s lim at → r ≡ pairsHeadAt s (readerOf row .limits) (readerOf row .place .0)
     map-at r e = rw (← within, ← here) e
 
     pub message-at : (r : MessageHead) → r ≡ messageAt s lim at → r ≡ messageAt s (readerOf row .limits) (readerOf row .place .0)

@@ -20,8 +20,8 @@ use Rattle.types.specs.declared.FieldId.{FieldId}
 use Rattle.types.specs.declared.SeqNo.{SeqNo}
 use Rattle.numbers.specs.Varint.{Found, got, refused}
 use Rattle.heads.specs.Reader.{Reader, readAt}
-use Rattle.heads.specs.Heads.{int8, int16, int32, int64, double, truth, uuid, binary, text, items, pairs, Field, stop, bool, value, field, Message, message}
-use Rattle.heads.specs.Answers.{place, idOf, toI8, toI16, toI32, toI64, toDouble, toBool, toPart, toList, toMap, toField, toMessage, int8At, int16At, int32At, int64At, doubleAt, truthAt, uuidAt, binaryAt, textAt, itemsAt, pairsAt, fieldAt, messageAt}
+use Rattle.heads.specs.Heads.{int8, int16, int32, int64, double, truth, uuid, binary, text, itemsHead, pairsHead, Field, stop, bool, value, field, Message, message}
+use Rattle.heads.specs.Answers.{place, idOf, toI8, toI16, toI32, toI64, toDouble, toBool, toPart, toList, toMap, toField, toMessage, int8At, int16At, int32At, int64At, doubleAt, truthAt, uuidAt, binaryAt, textAt, itemsHeadAt, pairsHeadAt, fieldAt, messageAt}
 use Rattle.heads.specs.declared.BoolRead.{BoolRead}
 use Rattle.heads.specs.declared.BoolRead.the-variants as hB
 use Rattle.heads.specs.declared.I8Read.{I8Read}
@@ -325,12 +325,12 @@ fitList st (refused why) = refl
 module _ (s : List ℕ) (st : State) (num : ℕ) (e : num ≡ gate (length s) st) where
   pub list-stopped : (num ≡ 0 → ⊥) → asList (declines num st) ≡ call.readList s st
   unfolding call.readList
-  list-stopped h = stopped asList (λ st. items (st .limits)) stays s st num e h
+  list-stopped h = stopped asList (λ st. itemsHead (st .limits)) stays s st num e h
 
-  module _ (h : num ≡ 0) (r : ListHead) (f : r ≡ itemsAt s (st .limits) (st .place .0)) where
+  module _ (h : num ≡ 0) (r : ListHead) (f : r ≡ itemsHeadAt s (st .limits) (st .place .0)) where
     list-is : (x : ListHead) → r ≡ x → ofList st x ≡ call.readList s st
-    unfolding call.readList itemsAt
-    list-is x g = told toList ofList asList (λ st. items (st .limits)) stays fitList s st num e h r x f g
+    unfolding call.readList itemsHeadAt
+    list-is x g = told toList ofList asList (λ st. itemsHead (st .limits)) stays fitList s st num e h r x f g
 
     pub list-got : (t : TType) (n : ℕ) (q : Place) → r ≡ hL.Got t n q → ofList st (hL.Got t n q) ≡ call.readList s st
     list-got t n q g = list-is (hL.Got t n q) g
@@ -357,12 +357,12 @@ fitMap st (refused why) = refl
 module _ (s : List ℕ) (st : State) (num : ℕ) (e : num ≡ gate (length s) st) where
   pub map-stopped : (num ≡ 0 → ⊥) → asMap (declines num st) ≡ call.readMap s st
   unfolding call.readMap
-  map-stopped h = stopped asMap (λ st. pairs (st .limits)) stays s st num e h
+  map-stopped h = stopped asMap (λ st. pairsHead (st .limits)) stays s st num e h
 
-  module _ (h : num ≡ 0) (r : MapHead) (f : r ≡ pairsAt s (st .limits) (st .place .0)) where
+  module _ (h : num ≡ 0) (r : MapHead) (f : r ≡ pairsHeadAt s (st .limits) (st .place .0)) where
     map-is : (x : MapHead) → r ≡ x → ofMap st x ≡ call.readMap s st
-    unfolding call.readMap pairsAt
-    map-is x g = told toMap ofMap asMap (λ st. pairs (st .limits)) stays fitMap s st num e h r x f g
+    unfolding call.readMap pairsHeadAt
+    map-is x g = told toMap ofMap asMap (λ st. pairsHead (st .limits)) stays fitMap s st num e h r x f g
 
     pub map-got : (k : TType) (v : TType) (n : ℕ) (q : Place) → r ≡ hM.Got k v n q → ofMap st (hM.Got k v n q) ≡ call.readMap s st
     map-got k v n q g = map-is (hM.Got k v n q) g

@@ -5,14 +5,15 @@ use mathlib.Core.Bool.{Bool}
 use Prim.Native.Nat.{ℕ}
 use lib.IntN.{ℤ}
 use Rattle.types.specs.declared.TType.{TType}
-use Rattle.heads.specs.Heads.{int8, int16, int32, int64, double, uuid, binary, text, items, pairs, Field, stop, bool, value, field, Message, message}
-use Rattle.heads.proofs.Readers.{int8-lawful, int16-lawful, int32-lawful, int64-lawful, double-lawful, uuid-lawful, binary-lawful, text-lawful, items-lawful, pairs-lawful, field-lawful, message-lawful}
+use Rattle.heads.specs.Heads.{int8, int16, int32, int64, double, uuid, binary, text, itemsHead, pairsHead, Field, stop, bool, value, field, Message, message}
+use Rattle.heads.proofs.Ahead.{itemsHead-fair, pairsHead-fair}
+use Rattle.heads.proofs.Readers.{int8-lawful, int16-lawful, int32-lawful, int64-lawful, double-lawful, uuid-lawful, binary-lawful, text-lawful, field-lawful, message-lawful}
 use Rattle.input.specs.State.{State}
 use Rattle.input.specs.Outcome.{Said, says, refuses, calls, stays, bools, begins, ends, anew, onField}
 use Rattle.input.specs.Answers.{asBool, asI8, asI16, asI32, asI64, asDouble, asPart, asList, asMap, asField, asMessage, asDone, toBool, toI8, toI16, toI32, toI64, toDouble, toPart, toList, toMap, toField, toMessage, toDone, numberBool, numberI8, numberI16, numberI32, numberI64, numberDouble, numberPart, numberList, numberMap, numberField, numberMessage, numberDone}
 use Rattle.input.specs.Calls.{readBool, readI8, readI16, readI32, readI64, readDouble, readUuid, readBytes, readString, readList, readSet, readMap, readField, readMessage, structBegin, structEnd}
-use Rattle.input.proofs.Refusals.{int8-told, int16-told, int32-told, int64-told, double-told, uuid-told, binary-told, text-told, items-told, pairs-told, field-told, message-told}
-use Rattle.input.proofs.Laws.{CallLaws, Way, Keeps, stays-keeps, numberOf, laws, reads, busy, never, busyOrOut, bool-ways, begin-ways, end-ways}
+use Rattle.input.proofs.Refusals.{int8-told, int16-told, int32-told, int64-told, double-told, uuid-told, binary-told, text-told, itemsHead-told, pairsHead-told, field-told, message-told}
+use Rattle.input.proofs.Laws.{CallLaws, any, noShorter, Way, Keeps, stays-keeps, numberOf, laws, reads, heads, busy, never, busyOrOut, bool-ways, begin-ways, end-ways}
 
 -- each answer's number is that of what was said
 numBool : (x : Said Bool) → numberBool (toBool x) ≡ numberOf x
@@ -43,11 +44,11 @@ numPart : (e : ℕ) (x : Said (List ℕ)) → numberPart (toPart e x) ≡ number
 numPart e (says a) = refl
 numPart e (refuses why) = refl
 
-numList : (x : Said (TType × ℕ)) → numberList (toList x) ≡ numberOf x
+pub numList : (x : Said (TType × ℕ)) → numberList (toList x) ≡ numberOf x
 numList (says a) = refl
 numList (refuses why) = refl
 
-numMap : (x : Said (TType × TType × ℕ)) → numberMap (toMap x) ≡ numberOf x
+pub numMap : (x : Said (TType × TType × ℕ)) → numberMap (toMap x) ≡ numberOf x
 numMap (says a) = refl
 numMap (refuses why) = refl
 
@@ -83,103 +84,103 @@ onField-keeps : Keeps onField
 onField-keeps = record { limits = field-limits; depth = field-depth }
 
 -- which ways each call may go
-pub int8-ways : (s : List ℕ) (st : State) → Way (calls (λ st. int8) stays) busy s st
+pub int8-ways : (s : List ℕ) (st : State) → Way any (calls (λ st. int8) stays) busy s st
 int8-ways = reads (λ st. int8) stays stays-keeps (λ st. int8-lawful) (λ st. int8-told)
 
-pub int16-ways : (s : List ℕ) (st : State) → Way (calls (λ st. int16) stays) busy s st
+pub int16-ways : (s : List ℕ) (st : State) → Way any (calls (λ st. int16) stays) busy s st
 int16-ways = reads (λ st. int16) stays stays-keeps (λ st. int16-lawful) (λ st. int16-told)
 
-pub int32-ways : (s : List ℕ) (st : State) → Way (calls (λ st. int32) stays) busy s st
+pub int32-ways : (s : List ℕ) (st : State) → Way any (calls (λ st. int32) stays) busy s st
 int32-ways = reads (λ st. int32) stays stays-keeps (λ st. int32-lawful) (λ st. int32-told)
 
-pub int64-ways : (s : List ℕ) (st : State) → Way (calls (λ st. int64) stays) busy s st
+pub int64-ways : (s : List ℕ) (st : State) → Way any (calls (λ st. int64) stays) busy s st
 int64-ways = reads (λ st. int64) stays stays-keeps (λ st. int64-lawful) (λ st. int64-told)
 
-pub double-ways : (s : List ℕ) (st : State) → Way (calls (λ st. double) stays) busy s st
+pub double-ways : (s : List ℕ) (st : State) → Way any (calls (λ st. double) stays) busy s st
 double-ways = reads (λ st. double) stays stays-keeps (λ st. double-lawful) (λ st. double-told)
 
-pub uuid-ways : (s : List ℕ) (st : State) → Way (calls (λ st. uuid) stays) busy s st
+pub uuid-ways : (s : List ℕ) (st : State) → Way any (calls (λ st. uuid) stays) busy s st
 uuid-ways = reads (λ st. uuid) stays stays-keeps (λ st. uuid-lawful) (λ st. uuid-told)
 
-pub binary-ways : (s : List ℕ) (st : State) → Way (calls (λ st. binary (st .limits)) stays) busy s st
+pub binary-ways : (s : List ℕ) (st : State) → Way any (calls (λ st. binary (st .limits)) stays) busy s st
 binary-ways = reads (λ st. binary (st .limits)) stays stays-keeps (λ st. binary-lawful (st .limits)) (λ st. binary-told (st .limits))
 
-pub text-ways : (s : List ℕ) (st : State) → Way (calls (λ st. text (st .limits)) stays) busy s st
+pub text-ways : (s : List ℕ) (st : State) → Way any (calls (λ st. text (st .limits)) stays) busy s st
 text-ways = reads (λ st. text (st .limits)) stays stays-keeps (λ st. text-lawful (st .limits)) (λ st. text-told (st .limits))
 
-pub items-ways : (s : List ℕ) (st : State) → Way (calls (λ st. items (st .limits)) stays) busy s st
-items-ways = reads (λ st. items (st .limits)) stays stays-keeps (λ st. items-lawful (st .limits)) (λ st. items-told (st .limits))
+pub items-ways : (s : List ℕ) (st : State) → Way noShorter (calls (λ st. itemsHead (st .limits)) stays) busy s st
+items-ways = heads (λ st. itemsHead (st .limits)) stays stays-keeps (λ st. itemsHead-fair (st .limits)) (λ st. itemsHead-told (st .limits))
 
-pub pairs-ways : (s : List ℕ) (st : State) → Way (calls (λ st. pairs (st .limits)) stays) busy s st
-pairs-ways = reads (λ st. pairs (st .limits)) stays stays-keeps (λ st. pairs-lawful (st .limits)) (λ st. pairs-told (st .limits))
+pub pairs-ways : (s : List ℕ) (st : State) → Way noShorter (calls (λ st. pairsHead (st .limits)) stays) busy s st
+pairs-ways = heads (λ st. pairsHead (st .limits)) stays stays-keeps (λ st. pairsHead-fair (st .limits)) (λ st. pairsHead-told (st .limits))
 
-pub message-ways : (s : List ℕ) (st : State) → Way (calls (λ st. message (st .limits)) anew) busy s st
+pub message-ways : (s : List ℕ) (st : State) → Way any (calls (λ st. message (st .limits)) anew) busy s st
 message-ways = reads (λ st. message (st .limits)) anew anew-keeps (λ st. message-lawful (st .limits)) (λ st. message-told (st .limits))
 
-pub field-ways : (s : List ℕ) (st : State) → Way (calls (λ st. field (st .last .0)) onField) busy s st
+pub field-ways : (s : List ℕ) (st : State) → Way any (calls (λ st. field (st .last .0)) onField) busy s st
 field-ways = reads (λ st. field (st .last .0)) onField onField-keeps (λ st. field-lawful (st .last .0)) (λ st. field-told (st .last .0))
 
 -- The laws.
-pub bool-laws : CallLaws readBool (λ r. numberBool (r .answer)) (λ r. r .state) never
+pub bool-laws : CallLaws any readBool (λ r. numberBool (r .answer)) (λ r. r .state) never
 unfolding readBool
-bool-laws = laws bools never bool-ways asBool _ _ (λ o. numBool (o .said)) (λ o. refl)
+bool-laws = laws any bools never bool-ways asBool _ _ (λ o. numBool (o .said)) (λ o. refl)
 
-pub i8-laws : CallLaws readI8 (λ r. numberI8 (r .answer)) (λ r. r .state) busy
+pub i8-laws : CallLaws any readI8 (λ r. numberI8 (r .answer)) (λ r. r .state) busy
 unfolding readI8
-i8-laws = laws (calls (λ st. int8) stays) busy int8-ways asI8 _ _ (λ o. numI8 (o .said)) (λ o. refl)
+i8-laws = laws any (calls (λ st. int8) stays) busy int8-ways asI8 _ _ (λ o. numI8 (o .said)) (λ o. refl)
 
-pub i16-laws : CallLaws readI16 (λ r. numberI16 (r .answer)) (λ r. r .state) busy
+pub i16-laws : CallLaws any readI16 (λ r. numberI16 (r .answer)) (λ r. r .state) busy
 unfolding readI16
-i16-laws = laws (calls (λ st. int16) stays) busy int16-ways asI16 _ _ (λ o. numI16 (o .said)) (λ o. refl)
+i16-laws = laws any (calls (λ st. int16) stays) busy int16-ways asI16 _ _ (λ o. numI16 (o .said)) (λ o. refl)
 
-pub i32-laws : CallLaws readI32 (λ r. numberI32 (r .answer)) (λ r. r .state) busy
+pub i32-laws : CallLaws any readI32 (λ r. numberI32 (r .answer)) (λ r. r .state) busy
 unfolding readI32
-i32-laws = laws (calls (λ st. int32) stays) busy int32-ways asI32 _ _ (λ o. numI32 (o .said)) (λ o. refl)
+i32-laws = laws any (calls (λ st. int32) stays) busy int32-ways asI32 _ _ (λ o. numI32 (o .said)) (λ o. refl)
 
-pub i64-laws : CallLaws readI64 (λ r. numberI64 (r .answer)) (λ r. r .state) busy
+pub i64-laws : CallLaws any readI64 (λ r. numberI64 (r .answer)) (λ r. r .state) busy
 unfolding readI64
-i64-laws = laws (calls (λ st. int64) stays) busy int64-ways asI64 _ _ (λ o. numI64 (o .said)) (λ o. refl)
+i64-laws = laws any (calls (λ st. int64) stays) busy int64-ways asI64 _ _ (λ o. numI64 (o .said)) (λ o. refl)
 
-pub double-laws : CallLaws readDouble (λ r. numberDouble (r .answer)) (λ r. r .state) busy
+pub double-laws : CallLaws any readDouble (λ r. numberDouble (r .answer)) (λ r. r .state) busy
 unfolding readDouble
-double-laws = laws (calls (λ st. double) stays) busy double-ways asDouble _ _ (λ o. numDouble (o .said)) (λ o. refl)
+double-laws = laws any (calls (λ st. double) stays) busy double-ways asDouble _ _ (λ o. numDouble (o .said)) (λ o. refl)
 
-pub uuid-laws : CallLaws readUuid (λ r. numberPart (r .answer)) (λ r. r .state) busy
+pub uuid-laws : CallLaws any readUuid (λ r. numberPart (r .answer)) (λ r. r .state) busy
 unfolding readUuid
-uuid-laws = laws (calls (λ st. uuid) stays) busy uuid-ways asPart _ _ (λ o. numPart (o .state .place .0) (o .said)) (λ o. refl)
+uuid-laws = laws any (calls (λ st. uuid) stays) busy uuid-ways asPart _ _ (λ o. numPart (o .state .place .0) (o .said)) (λ o. refl)
 
-pub bytes-laws : CallLaws readBytes (λ r. numberPart (r .answer)) (λ r. r .state) busy
+pub bytes-laws : CallLaws any readBytes (λ r. numberPart (r .answer)) (λ r. r .state) busy
 unfolding readBytes
-bytes-laws = laws (calls (λ st. binary (st .limits)) stays) busy binary-ways asPart _ _ (λ o. numPart (o .state .place .0) (o .said)) (λ o. refl)
+bytes-laws = laws any (calls (λ st. binary (st .limits)) stays) busy binary-ways asPart _ _ (λ o. numPart (o .state .place .0) (o .said)) (λ o. refl)
 
-pub string-laws : CallLaws readString (λ r. numberPart (r .answer)) (λ r. r .state) busy
+pub string-laws : CallLaws any readString (λ r. numberPart (r .answer)) (λ r. r .state) busy
 unfolding readString
-string-laws = laws (calls (λ st. text (st .limits)) stays) busy text-ways asPart _ _ (λ o. numPart (o .state .place .0) (o .said)) (λ o. refl)
+string-laws = laws any (calls (λ st. text (st .limits)) stays) busy text-ways asPart _ _ (λ o. numPart (o .state .place .0) (o .said)) (λ o. refl)
 
-pub list-laws : CallLaws readList (λ r. numberList (r .answer)) (λ r. r .state) busy
+pub list-laws : CallLaws noShorter readList (λ r. numberList (r .answer)) (λ r. r .state) busy
 unfolding readList
-list-laws = laws (calls (λ st. items (st .limits)) stays) busy items-ways asList _ _ (λ o. numList (o .said)) (λ o. refl)
+list-laws = laws noShorter (calls (λ st. itemsHead (st .limits)) stays) busy items-ways asList _ _ (λ o. numList (o .said)) (λ o. refl)
 
-pub set-laws : CallLaws readSet (λ r. numberList (r .answer)) (λ r. r .state) busy
+pub set-laws : CallLaws noShorter readSet (λ r. numberList (r .answer)) (λ r. r .state) busy
 unfolding readSet
-set-laws = laws (calls (λ st. items (st .limits)) stays) busy items-ways asList _ _ (λ o. numList (o .said)) (λ o. refl)
+set-laws = laws noShorter (calls (λ st. itemsHead (st .limits)) stays) busy items-ways asList _ _ (λ o. numList (o .said)) (λ o. refl)
 
-pub map-laws : CallLaws readMap (λ r. numberMap (r .answer)) (λ r. r .state) busy
+pub map-laws : CallLaws noShorter readMap (λ r. numberMap (r .answer)) (λ r. r .state) busy
 unfolding readMap
-map-laws = laws (calls (λ st. pairs (st .limits)) stays) busy pairs-ways asMap _ _ (λ o. numMap (o .said)) (λ o. refl)
+map-laws = laws noShorter (calls (λ st. pairsHead (st .limits)) stays) busy pairs-ways asMap _ _ (λ o. numMap (o .said)) (λ o. refl)
 
-pub field-laws : CallLaws readField (λ r. numberField (r .answer)) (λ r. r .state) busy
+pub field-laws : CallLaws any readField (λ r. numberField (r .answer)) (λ r. r .state) busy
 unfolding readField
-field-laws = laws (calls (λ st. field (st .last .0)) onField) busy field-ways asField _ _ (λ o. numField (o .said)) (λ o. refl)
+field-laws = laws any (calls (λ st. field (st .last .0)) onField) busy field-ways asField _ _ (λ o. numField (o .said)) (λ o. refl)
 
-pub message-laws : CallLaws readMessage (λ r. numberMessage (r .answer)) (λ r. r .state) busy
+pub message-laws : CallLaws any readMessage (λ r. numberMessage (r .answer)) (λ r. r .state) busy
 unfolding readMessage
-message-laws = laws (calls (λ st. message (st .limits)) anew) busy message-ways asMessage _ _ (λ o. numMessage (o .state .place .0) (o .said)) (λ o. refl)
+message-laws = laws any (calls (λ st. message (st .limits)) anew) busy message-ways asMessage _ _ (λ o. numMessage (o .state .place .0) (o .said)) (λ o. refl)
 
-pub begin-laws : CallLaws structBegin (λ r. numberDone (r .answer)) (λ r. r .state) busy
+pub begin-laws : CallLaws any structBegin (λ r. numberDone (r .answer)) (λ r. r .state) busy
 unfolding structBegin
-begin-laws = laws begins busy begin-ways asDone _ _ (λ o. numDone (o .said)) (λ o. refl)
+begin-laws = laws any begins busy begin-ways asDone _ _ (λ o. numDone (o .said)) (λ o. refl)
 
-pub end-laws : CallLaws structEnd (λ r. numberDone (r .answer)) (λ r. r .state) busyOrOut
+pub end-laws : CallLaws any structEnd (λ r. numberDone (r .answer)) (λ r. r .state) busyOrOut
 unfolding structEnd
-end-laws = laws ends busyOrOut end-ways asDone _ _ (λ o. numDone (o .said)) (λ o. refl)
+end-laws = laws any ends busyOrOut end-ways asDone _ _ (λ o. numDone (o .said)) (λ o. refl)

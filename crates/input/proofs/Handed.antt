@@ -33,7 +33,7 @@ use Rattle.input.specs.declared.MessageAnswer.the-variants as H
 use Rattle.input.specs.declared.ReadPart.{ReadPart}
 use Rattle.input.specs.declared.ReadMessage.{ReadMessage}
 use Rattle.input.proofs.Gate.{is-sound}
-use Rattle.input.proofs.Laws.{busy, read-well, Way, unsound, early, lost, well}
+use Rattle.input.proofs.Laws.{busy, any, read-well, Way, unsound, early, lost, well}
 use Rattle.input.proofs.Each.{uuid-ways, binary-ways, text-ways, message-ways}
 
 pub record Places (s : List ℕ) (a z : Place) : Type 0 where
@@ -53,34 +53,34 @@ ended s e n a z h f g =
     let y : e ≡ z .0 = ap (λ (q : Place). q .0) g in
     record { order = omega arith; inside = omega arith }
 
-module _ (call : List ℕ → State → Outcome (List ℕ)) (late : State → Bool) (ways : (s : List ℕ) (st : State) → Way call late s st) (s : List ℕ) (st : State) (a z : Place) (g : asPart (call s st) .answer ≡ P.Got a z) where
+module _ (call : List ℕ → State → Outcome (List ℕ)) (late : State → Bool) (ways : (s : List ℕ) (st : State) → Way any call late s st) (s : List ℕ) (st : State) (a z : Place) (g : asPart (call s st) .answer ≡ P.Got a z) where
   part-places : Places s a z
   part-places = go (ways s st)
     where
       said : (o : Outcome (List ℕ)) → call s st ≡ o → asPart o .answer ≡ P.Got a z
       said o e = ap (λ (x : Outcome (List ℕ)). asPart x .answer) (sym e) ∙ g
 
-      go : Way call late s st → Places s a z
+      go : Way any call late s st → Places s a z
       go (unsound f e) = no-part (said _ e)
       go (early f l e) = no-part (said _ e)
       go (lost f l why w e) = no-part (said _ e)
-      go (well f l bs next lo hi b) =
-          let h : P.Got (place (next .place .0 - length bs)) (place (next .place .0)) ≡ P.Got a z = said _ (b s refl) in
+      go (well f l bs next lo hi q b) =
+          let h : P.Got (place (next .place .0 - length bs)) (place (next .place .0)) ≡ P.Got a z = said _ q in
           ended s (next .place .0) (length bs) a z (is-sound (length s) next hi .here) (cc) (cc)
 
-module _ (call : List ℕ → State → Outcome Message) (late : State → Bool) (ways : (s : List ℕ) (st : State) → Way call late s st) (s : List ℕ) (st : State) (m : TMessageType) (i : SeqNo) (a z : Place) (g : asMessage (call s st) .answer ≡ H.Got m i a z) where
+module _ (call : List ℕ → State → Outcome Message) (late : State → Bool) (ways : (s : List ℕ) (st : State) → Way any call late s st) (s : List ℕ) (st : State) (m : TMessageType) (i : SeqNo) (a z : Place) (g : asMessage (call s st) .answer ≡ H.Got m i a z) where
   name-places : Places s a z
   name-places = go (ways s st)
     where
       said : (o : Outcome Message) → call s st ≡ o → asMessage o .answer ≡ H.Got m i a z
       said o e = ap (λ (x : Outcome Message). asMessage x .answer) (sym e) ∙ g
 
-      go : Way call late s st → Places s a z
+      go : Way any call late s st → Places s a z
       go (unsound f e) = no-name (said _ e)
       go (early f l e) = no-name (said _ e)
       go (lost f l why w e) = no-name (said _ e)
-      go (well f l n next lo hi b) =
-          let h : asMessage (answers n next) .answer ≡ H.Got m i a z = said _ (b s refl) in
+      go (well f l n next lo hi q b) =
+          let h : asMessage (answers n next) .answer ≡ H.Got m i a z = said _ q in
           ended s (next .place .0) (length (n .2)) a z (is-sound (length s) next hi .here) (cc) (cc)
 
 -- the part that the code takes

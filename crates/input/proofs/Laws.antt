@@ -17,6 +17,7 @@ use Rattle.heads.specs.Reader.{Reader, readAt}
 use Rattle.heads.specs.Heads.{truth}
 use Rattle.heads.specs.Answers.{place}
 use Rattle.heads.proofs.Lawful.{Lawful, same}
+use Rattle.heads.proofs.Ahead.{Fair}
 use Rattle.heads.proofs.Steps.{found-at, lost-at}
 use Rattle.heads.proofs.Readers.{truth-lawful}
 use Rattle.input.specs.State.{State, sound, waits, gate, movedTo, withPending, entered, left}
@@ -29,12 +30,19 @@ use Rattle.input.proofs.Refusals.{Shown, shown, Told, truth-told}
 pub not-true : {X : Type 0} {b : Bool} → b ≡ false → b ≡ true → X
 not-true f g = let z : _≡_ {A = Bool} false true = sym f ∙ g in let o : _≡_ {A = ℕ} 0 1 = cc in absurd (omega arith)
 
+-- the other inputs that a call's answer holds for, of those that agree with its own up to its end: all; or, where bytes ahead are asked for, one that is no shorter
+abbrev pub any : List ℕ → List ℕ → Type 0
+any s t = Unit {0}
+
+abbrev pub noShorter : List ℕ → List ℕ → Type 0
+noShorter s t = length s ≤ length t
+
 -- what is promised of a call; `late` says which states it is out of turn in
-pub record CallLaws {R : Type 0} (call : List ℕ → State → R) (number : R → ℕ) (state : R → State) (late : State → Bool) : Type 0 where
+pub record CallLaws (far : List ℕ → List ℕ → Type 0) {R : Type 0} (call : List ℕ → State → R) (number : R → ℕ) (state : R → State) (late : State → Bool) : Type 0 where
   -- "A refusal returns its number and the state as given"
   pub kept : (s : List ℕ) (st : State) → (number (call s st) ≡ 0 → ⊥) → state (call s st) ≡ st
   -- "two inputs that agree up to its end give .. every read the same answer"
-  pub behind : (s t : List ℕ) (st : State) → number (call s st) ≡ 0 → take (state (call s st) .place .0) t ≡ take (state (call s st) .place .0) s → call t st ≡ call s st
+  pub behind : (s t : List ℕ) (st : State) → number (call s st) ≡ 0 → take (state (call s st) .place .0) t ≡ take (state (call s st) .place .0) s → far s t → call t st ≡ call s st
   -- what was read lies in the input
   pub onward : (s : List ℕ) (st : State) → number (call s st) ≡ 0 → st .place .0 ≤ state (call s st) .place .0
   pub inside : (s : List ℕ) (st : State) → number (call s st) ≡ 0 → state (call s st) .place .0 ≤ length s
@@ -48,18 +56,18 @@ pub record CallLaws {R : Type 0} (call : List ℕ → State → R) (number : R �
   pub turn-out : (s : List ℕ) (st : State) → sound (length s) st ≡ true → late st ≡ true → number (call s st) ≡ OUT-OF-TURN
 
 -- the ways that a call may go
-pub data Way {A : Type 0} (call : List ℕ → State → Outcome A) (late : State → Bool) (s : List ℕ) (st : State) : Type 0 where
-  unsound : sound (length s) st ≡ false → call s st ≡ declines BAD-STATE st → Way call late s st
-  early : sound (length s) st ≡ true → late st ≡ true → call s st ≡ declines OUT-OF-TURN st → Way call late s st
-  lost : sound (length s) st ≡ true → late st ≡ false → (why : ℕ) → Shown why → call s st ≡ declines why st → Way call late s st
-  well : sound (length s) st ≡ true → late st ≡ false → (a : A) (next : State) → st .place .0 ≤ next .place .0 → sound (length s) next ≡ true → ((t : List ℕ) → take (next .place .0) t ≡ take (next .place .0) s → call t st ≡ answers a next) → Way call late s st
+pub data Way (far : List ℕ → List ℕ → Type 0) {A : Type 0} (call : List ℕ → State → Outcome A) (late : State → Bool) (s : List ℕ) (st : State) : Type 0 where
+  unsound : sound (length s) st ≡ false → call s st ≡ declines BAD-STATE st → Way far call late s st
+  early : sound (length s) st ≡ true → late st ≡ true → call s st ≡ declines OUT-OF-TURN st → Way far call late s st
+  lost : sound (length s) st ≡ true → late st ≡ false → (why : ℕ) → Shown why → call s st ≡ declines why st → Way far call late s st
+  well : sound (length s) st ≡ true → late st ≡ false → (a : A) (next : State) → st .place .0 ≤ next .place .0 → sound (length s) next ≡ true → call s st ≡ answers a next → ((t : List ℕ) → take (next .place .0) t ≡ take (next .place .0) s → far s t → call t st ≡ answers a next) → Way far call late s st
 
 abbrev pub numberOf : {A : Type 0} → Said A → ℕ
 numberOf (says a) = 0
 numberOf (refuses why) = why
 
 -- each way keeps the promises, in the words `out` of any declared answer
-module _ {A R : Type 0} (call : List ℕ → State → Outcome A) (late : State → Bool) (ways : (s : List ℕ) (st : State) → Way call late s st) (out : Outcome A → R) (number : R → ℕ) (state : R → State) (fit : (o : Outcome A) → number (out o) ≡ numberOf (o .said)) (same-state : (o : Outcome A) → state (out o) ≡ o .state) where
+module _ (far : List ℕ → List ℕ → Type 0) {A R : Type 0} (call : List ℕ → State → Outcome A) (late : State → Bool) (ways : (s : List ℕ) (st : State) → Way far call late s st) (out : Outcome A → R) (number : R → ℕ) (state : R → State) (fit : (o : Outcome A) → number (out o) ≡ numberOf (o .said)) (same-state : (o : Outcome A) → state (out o) ≡ o .state) where
   num : (s : List ℕ) (st : State) (o : Outcome A) → call s st ≡ o → number (out (call s st)) ≡ numberOf (o .said)
   num s st o e = fit (call s st) ∙ ap (λ (x : Outcome A). numberOf (x .said)) e
 
@@ -70,34 +78,34 @@ module _ {A R : Type 0} (call : List ℕ → State → Outcome A) (late : State 
     law-kept : (number (out (call s st)) ≡ 0 → ⊥) → state (out (call s st)) ≡ st
     law-kept h = go (ways s st)
       where
-        go : Way call late s st → state (out (call s st)) ≡ st
+        go : Way far call late s st → state (out (call s st)) ≡ st
         go (unsound f e) = next-is s st _ e
         go (early f l e) = next-is s st _ e
         go (lost f l why w e) = next-is s st _ e
-        go (well f l a next lo hi b) = absurd (h (num s st _ (b s refl)))
+        go (well f l a next lo hi e b) = absurd (h (num s st _ e))
 
     -- an answer comes from a call that went well
-    answered : {X : Type 0} → number (out (call s st)) ≡ 0 → ((a : A) (next : State) → st .place .0 ≤ next .place .0 → sound (length s) next ≡ true → ((t : List ℕ) → take (next .place .0) t ≡ take (next .place .0) s → call t st ≡ answers a next) → X) → X
+    answered : {X : Type 0} → number (out (call s st)) ≡ 0 → ((a : A) (next : State) → st .place .0 ≤ next .place .0 → sound (length s) next ≡ true → call s st ≡ answers a next → ((t : List ℕ) → take (next .place .0) t ≡ take (next .place .0) s → far s t → call t st ≡ answers a next) → X) → X
     answered {X} z k = go (ways s st)
       where
-        go : Way call late s st → X
+        go : Way far call late s st → X
         go (unsound f e) = let n = num s st _ e in absurd (omega arith)
         go (early f l e) = let n = num s st _ e in absurd (omega arith)
         go (lost f l why w e) = let n = num s st _ e in absurd (omega (arith, w .some))
-        go (well f l a next lo hi b) = k a next lo hi b
+        go (well f l a next lo hi e b) = k a next lo hi e b
 
-    law-behind : (t : List ℕ) → number (out (call s st)) ≡ 0 → take (state (out (call s st)) .place .0) t ≡ take (state (out (call s st)) .place .0) s → out (call t st) ≡ out (call s st)
-    law-behind t z g =
+    law-behind : (t : List ℕ) → number (out (call s st)) ≡ 0 → take (state (out (call s st)) .place .0) t ≡ take (state (out (call s st)) .place .0) s → far s t → out (call t st) ≡ out (call s st)
+    law-behind t z g w =
         answered z
-        (λ a next lo hi b.
-        let e : state (out (call s st)) ≡ next = next-is s st _ (b s refl) in
-        ap out (b t (rw e at g) ∙ sym (b s refl)))
+        (λ a next lo hi q b.
+        let e : state (out (call s st)) ≡ next = next-is s st _ q in
+        ap out (b t (rw e at g) w ∙ sym q))
 
     law-onward : number (out (call s st)) ≡ 0 → st .place .0 ≤ state (out (call s st)) .place .0
-    law-onward z = answered z (λ a next lo hi b. let e : state (out (call s st)) ≡ next = next-is s st _ (b s refl) in rw e lo)
+    law-onward z = answered z (λ a next lo hi q b. let e : state (out (call s st)) ≡ next = next-is s st _ q in rw e lo)
 
     law-inside : number (out (call s st)) ≡ 0 → state (out (call s st)) .place .0 ≤ length s
-    law-inside z = answered z (λ a next lo hi b. let e : state (out (call s st)) ≡ next = next-is s st _ (b s refl) in rw e (is-sound (length s) next hi .here))
+    law-inside z = answered z (λ a next lo hi q b. let e : state (out (call s st)) ≡ next = next-is s st _ q in rw e (is-sound (length s) next hi .here))
 
     law-sound : sound (length s) st ≡ true → sound (length s) (state (out (call s st))) ≡ true
     law-sound g = go (ways s st)
@@ -105,49 +113,49 @@ module _ {A R : Type 0} (call : List ℕ → State → Outcome A) (late : State 
         after : (o : Outcome A) → call s st ≡ o → sound (length s) (o .state) ≡ true → sound (length s) (state (out (call s st))) ≡ true
         after o e h = ap (sound (length s)) (next-is s st o e) ∙ h
 
-        go : Way call late s st → sound (length s) (state (out (call s st))) ≡ true
+        go : Way far call late s st → sound (length s) (state (out (call s st))) ≡ true
         go (unsound f e) = after _ e g
         go (early f l e) = after _ e g
         go (lost f l why w e) = after _ e g
-        go (well f l a next lo hi b) = after _ (b s refl) hi
+        go (well f l a next lo hi e b) = after _ e hi
 
     law-bad : number (out (call s st)) ≡ BAD-STATE → sound (length s) st ≡ false
     law-bad z = go (ways s st)
       where
-        go : Way call late s st → sound (length s) st ≡ false
+        go : Way far call late s st → sound (length s) st ≡ false
         go (unsound f e) = f
         go (early f l e) = let n = num s st _ e in absurd (omega arith)
         go (lost f l why w e) = absurd (w .stateless (sym (num s st _ e) ∙ z))
-        go (well f l a next lo hi b) = let n = num s st _ (b s refl) in absurd (omega arith)
+        go (well f l a next lo hi e b) = let n = num s st _ e in absurd (omega arith)
 
     law-bad-back : sound (length s) st ≡ false → number (out (call s st)) ≡ BAD-STATE
     law-bad-back z = go (ways s st)
       where
-        go : Way call late s st → number (out (call s st)) ≡ BAD-STATE
+        go : Way far call late s st → number (out (call s st)) ≡ BAD-STATE
         go (unsound f e) = num s st _ e
         go (early f l e) = not-true z f
         go (lost f l why w e) = not-true z f
-        go (well f l a next lo hi b) = not-true z f
+        go (well f l a next lo hi e b) = not-true z f
 
     law-turn : number (out (call s st)) ≡ OUT-OF-TURN → (sound (length s) st ≡ true) × (late st ≡ true)
     law-turn z = go (ways s st)
       where
-        go : Way call late s st → (sound (length s) st ≡ true) × (late st ≡ true)
+        go : Way far call late s st → (sound (length s) st ≡ true) × (late st ≡ true)
         go (unsound f e) = let n = num s st _ e in absurd (omega arith)
         go (early f l e) = (f, l)
         go (lost f l why w e) = absurd (w .turnless (sym (num s st _ e) ∙ z))
-        go (well f l a next lo hi b) = let n = num s st _ (b s refl) in absurd (omega arith)
+        go (well f l a next lo hi e b) = let n = num s st _ e in absurd (omega arith)
 
     law-turn-back : sound (length s) st ≡ true → late st ≡ true → number (out (call s st)) ≡ OUT-OF-TURN
     law-turn-back g z = go (ways s st)
       where
-        go : Way call late s st → number (out (call s st)) ≡ OUT-OF-TURN
+        go : Way far call late s st → number (out (call s st)) ≡ OUT-OF-TURN
         go (unsound f e) = not-true f g
         go (early f l e) = num s st _ e
         go (lost f l why w e) = not-true l z
-        go (well f l a next lo hi b) = not-true l z
+        go (well f l a next lo hi e b) = not-true l z
 
-  pub laws : CallLaws (λ s st. out (call s st)) number state late
+  pub laws : CallLaws far (λ s st. out (call s st)) number state late
   laws =
       record {
         kept = law-kept;
@@ -162,7 +170,7 @@ module _ {A R : Type 0} (call : List ℕ → State → Outcome A) (late : State 
       }
 
 -- an input that agrees with a state's up to a place behind its own is one that the state is sound for
-agree : (s t : List ℕ) (st : State) (e : ℕ) → sound (length s) st ≡ true → st .place .0 ≤ e → e ≤ length s → take e t ≡ take e s → sound (length t) st ≡ true
+pub agree : (s t : List ℕ) (st : State) (e : ℕ) → sound (length s) st ≡ true → st .place .0 ≤ e → e ≤ length s → take e t ≡ take e s → sound (length t) st ≡ true
 agree s t st e f lo hi g =
     let q = is-sound (length s) st f in
     sound-is (length t) st (record { limits = q .limits; here = omega (arith, as-long e s t hi g); deep = q .deep })
@@ -198,9 +206,20 @@ pub record Keeps {A : Type 0} (move : State → A → State) : Type 0 where
   pub limits : (st : State) (a : A) → move st a .limits ≡ st .limits
   pub depth : (st : State) (a : A) → move st a .depth ≡ st .depth
 
+-- what a reader owes: no more is taken than there is, and the same is found in other inputs
+pub record Owes {A : Type 0} (far : List ℕ → List ℕ → Type 0) (p : Reader A) : Type 0 where
+  pub ends : (bs : List ℕ) (a : A) (n : ℕ) → p bs ≡ got a n → n ≤ length bs
+  pub holds : (s t : List ℕ) (at : ℕ) (a : A) (n : ℕ) → p (drop at s) ≡ got a n → take n (drop at t) ≡ take n (drop at s) → far s t → p (drop at t) ≡ got a n
+
+pub lawful-reading : {A : Type 0} (p : Reader A) → Lawful p → Owes any p
+lawful-reading p l = record { ends = l .ends; holds = λ s t at a n e h f. same p l (drop at s) (drop at t) a n e h }
+
+pub fair-reading : {A : Type 0} (p : Reader A) → Fair p → Owes noShorter p
+fair-reading p l = record { ends = l .ends; holds = λ s t at a n e h f. l .longer (drop at s) (drop at t) a n e h (omega (arith, length-drop at s, length-drop at t)) }
+
 -- what a reader finds at a state's place, for a call that comes to its reader
-module _ {A : Type 0} (call : List ℕ → State → Outcome A) (late : State → Bool) (move : State → A → State) (keeps : Keeps move) (s : List ℕ) (st : State) (p : Reader A) (lawful : Lawful p) (told : Told p) (f : sound (length s) st ≡ true) (l : late st ≡ false) (passed : (t : List ℕ) → sound (length t) st ≡ true → call t st ≡ from move st (readAt p t (st .place .0))) where
-  found : (x : Found A) → readAt p s (st .place .0) ≡ x → Way call late s st
+module _ (far : List ℕ → List ℕ → Type 0) {A : Type 0} (call : List ℕ → State → Outcome A) (late : State → Bool) (move : State → A → State) (keeps : Keeps move) (s : List ℕ) (st : State) (p : Reader A) (lawful : Owes far p) (told : Told p) (f : sound (length s) st ≡ true) (l : late st ≡ false) (passed : (t : List ℕ) → sound (length t) st ≡ true → call t st ≡ from move st (readAt p t (st .place .0))) where
+  found : (x : Found A) → readAt p s (st .place .0) ≡ x → Way far call late s st
   unfolding readAt
   found (refused why) e = lost f l why (told (drop (st .place .0) s) why (lost-at (st .place .0) _ why e)) (passed s f ∙ ap (from move st) e)
   found (got a e) r =
@@ -211,8 +230,9 @@ module _ {A : Type 0} (call : List ℕ → State → Outcome A) (late : State �
       let lo : at ≤ e = omega (arith, g .2) in
       let hi : e ≤ length s = omega (arith, q .here, g .2, lawful .ends (drop at s) a n (g .1), length-drop at s) in
       well f l a (movedTo (move st a) (place e)) lo (sound-at (length s) st (movedTo (move st a) (place e)) f (keeps .limits st a) (keeps .depth st a) hi)
-      (λ t h.
-      let again : p (drop at t) ≡ got a n = same p lawful (drop at s) (drop at t) a n (g .1) (same-part at n e s t (g .2) h) in
+      (passed s f ∙ ap (from move st) r)
+      (λ t h w.
+      let again : p (drop at t) ≡ got a n = lawful .holds s t at a n (g .1) (same-part at n e s t (g .2) h) w in
       passed t (agree s t st e f lo hi h) ∙ ap (from move st) (ap (placed at) again ∙ ap (got a) (g .2)))
 
 -- behind the gate
@@ -220,19 +240,26 @@ abbrev reading : {A : Type 0} → (State → Reader A) → (State → A → Stat
 reading p move s st = from move st (readAt (p st) s (st .place .0))
 
 -- a call that reads
-module _ {A : Type 0} (p : State → Reader A) (move : State → A → State) (keeps : Keeps move) (lawful : (st : State) → Lawful (p st)) (told : (st : State) → Told (p st)) where
-  pub reads : (s : List ℕ) (st : State) → Way (calls p move) busy s st
+module _ (far : List ℕ → List ℕ → Type 0) {A : Type 0} (p : State → Reader A) (move : State → A → State) (keeps : Keeps move) (lawful : (st : State) → Owes far (p st)) (told : (st : State) → Told (p st)) where
+  pub reads-by : (s : List ℕ) (st : State) → Way far (calls p move) busy s st
   unfolding calls
-  reads s st = go (gated (length s) st)
+  reads-by s st = go (gated (length s) st)
     where
-      go : Gated (length s) st → Way (calls p move) busy s st
+      go : Gated (length s) st → Way far (calls p move) busy s st
       go (bad f g) = unsound f (at-gate (reading p move) s st BAD-STATE g (omega arith))
       go (turn f w g) = early f w (at-gate (reading p move) s st OUT-OF-TURN g (omega arith))
       go (through f w g) =
-          found (calls p move) busy move keeps s st (p st) (lawful st) (told st) f w
+          found far (calls p move) busy move keeps s st (p st) (lawful st) (told st) f w
           (λ t h. past-gate (reading p move) t st (gate-free (length t) st h w))
           (readAt (p st) s (st .place .0))
           refl
+
+-- bytes behind have no say; or, of a header, only their number
+pub reads : {A : Type 0} (p : State → Reader A) (move : State → A → State) → Keeps move → ((st : State) → Lawful (p st)) → ((st : State) → Told (p st)) → (s : List ℕ) (st : State) → Way any (calls p move) busy s st
+reads p move keeps lawful told = reads-by any p move keeps (λ st. lawful-reading (p st) (lawful st)) told
+
+pub heads : {A : Type 0} (p : State → Reader A) (move : State → A → State) → Keeps move → ((st : State) → Fair (p st)) → ((st : State) → Told (p st)) → (s : List ℕ) (st : State) → Way noShorter (calls p move) busy s st
+heads p move keeps fair told = reads-by noShorter p move keeps (λ st. fair-reading (p st) (fair st)) told
 
 pub stays-keeps : {A : Type 0} → Keeps (stays {A = A})
 stays-keeps = record { limits = λ st a. refl; depth = λ st a. refl }
@@ -242,6 +269,10 @@ module _ {A : Type 0} (p : State → Reader A) (move : State → A → State) (s
   pub read-well : sound (length s) st ≡ true → busy st ≡ false → (a : A) (e : ℕ) → readAt (p st) s (st .place .0) ≡ got a e → calls p move s st ≡ answers a (movedTo (move st a) (place e))
   unfolding calls
   read-well f w a e r = past-gate (reading p move) s st (gate-free (length s) st f w) ∙ ap (from move st) r
+
+  pub read-lost : sound (length s) st ≡ true → busy st ≡ false → (why : ℕ) → readAt (p st) s (st .place .0) ≡ refused why → calls p move s st ≡ declines why st
+  unfolding calls
+  read-lost f w why r = past-gate (reading p move) s st (gate-free (length s) st f w) ∙ ap (from move st) r
 
   pub record Landed : Type 0 where
     pub is-sound : sound (length s) st ≡ true
@@ -272,50 +303,52 @@ module _ {A : Type 0} (p : State → Reader A) (move : State → A → State) (s
 abbrev pub never : State → Bool
 never st = false
 
-pub bool-ways : (s : List ℕ) (st : State) → Way bools never s st
+pub bool-ways : (s : List ℕ) (st : State) → Way any bools never s st
 unfolding bools element
 bool-ways s st = go (sound (length s) st) refl (st .pending .0) refl
   where
-    go : (b : Bool) → sound (length s) st ≡ b → (w : Awaited) → st .pending .0 ≡ w → Way bools never s st
+    go : (b : Bool) → sound (length s) st ≡ b → (w : Awaited) → st .pending .0 ≡ w → Way any bools never s st
     go false f w g = unsound f (rw f)
     go true f W.Nothing g =
-        found bools never stays stays-keeps s st truth truth-lawful truth-told f refl (λ t h. rw (h, g)) (readAt truth s (st .place .0)) refl
+        found any bools never stays stays-keeps s st truth (lawful-reading truth truth-lawful) truth-told f refl (λ t h. rw (h, g)) (readAt truth s (st .place .0)) refl
     go true f (W.Truth b) g =
         let q = is-sound (length s) st f in
         well f refl b (withPending st W.Nothing) (omega arith) (sound-at (length s) st (withPending st W.Nothing) f refl refl (q .here))
-        (λ t h. let k = agree s t st (st .place .0) f (omega arith) (q .here) h in rw (k, g))
+        (rw (f, g))
+        (λ t h w. let k = agree s t st (st .place .0) f (omega arith) (q .here) h in rw (k, g))
 
 -- a call that reads no byte: it stays where it is
 module _ (behind : State → Outcome (Unit {0})) (late : State → Bool) (s : List ℕ) (st : State) (f : sound (length s) st ≡ true) (w : busy st ≡ false) where
   abbrev resting : List ℕ → State → Outcome (Unit {0})
   resting s st = behind st
 
-  rests : late st ≡ false → (next : State) → behind st ≡ answers tt next → next .place .0 ≡ st .place .0 → sound (length s) next ≡ true → Way (gatedly resting) late s st
+  rests : late st ≡ false → (next : State) → behind st ≡ answers tt next → next .place .0 ≡ st .place .0 → sound (length s) next ≡ true → Way any (gatedly resting) late s st
   rests l next e z g =
       let q = is-sound (length s) st f in
       well f l tt next (omega arith) g
-      (λ t h.
+      (past-gate resting s st (gate-free (length s) st f w) ∙ e)
+      (λ t h u.
       let k : sound (length t) st ≡ true = agree s t st (st .place .0) f (omega arith) (q .here) (rw z at h) in
       past-gate resting t st (gate-free (length t) st k w) ∙ e)
 
-  rests-no : late st ≡ false → (why : ℕ) → Shown why → behind st ≡ declines why st → Way (gatedly resting) late s st
+  rests-no : late st ≡ false → (why : ℕ) → Shown why → behind st ≡ declines why st → Way any (gatedly resting) late s st
   rests-no l why h e = lost f l why h (past-gate resting s st (gate-free (length s) st f w) ∙ e)
 
 abbrev entering : State → Outcome (Unit {0})
 entering st = cond (leb (st .limits .depth) (st .depth)) (declines DEPTH st) (answers tt (entered st))
 
-pub begin-ways : (s : List ℕ) (st : State) → Way begins busy s st
+pub begin-ways : (s : List ℕ) (st : State) → Way any begins busy s st
 unfolding begins
 begin-ways s st = go (gated (length s) st)
   where
     inner : Sound (length s) st → st .depth < st .limits .depth → sound (length s) (entered st) ≡ true
     inner q d = sound-is (length s) (entered st) (record { limits = q .limits; here = q .here; deep = omega arith })
 
-    deep : sound (length s) st ≡ true → busy st ≡ false → (b : Bool) → leb (st .limits .depth) (st .depth) ≡ b → Way begins busy s st
+    deep : sound (length s) st ≡ true → busy st ≡ false → (b : Bool) → leb (st .limits .depth) (st .depth) ≡ b → Way any begins busy s st
     deep f w true d = rests-no entering busy s st f w w DEPTH (shown DEPTH refl) (rw d)
     deep f w false d = rests entering busy s st f w w (entered st) (rw d) refl (inner (is-sound (length s) st f) (leb-false _ _ d))
 
-    go : Gated (length s) st → Way begins busy s st
+    go : Gated (length s) st → Way any begins busy s st
     go (bad f g) = unsound f (at-gate (λ s st. entering st) s st BAD-STATE g (omega arith))
     go (turn f w g) = early f w (at-gate (λ s st. entering st) s st OUT-OF-TURN g (omega arith))
     go (through f w g) = deep f w (leb (st .limits .depth) (st .depth)) refl
@@ -327,18 +360,18 @@ leaving st = cond (eqb (st .depth) 0) (declines OUT-OF-TURN st) (answers tt (lef
 abbrev pub busyOrOut : State → Bool
 busyOrOut st = busy st || eqb (st .depth) 0
 
-pub end-ways : (s : List ℕ) (st : State) → Way ends busyOrOut s st
+pub end-ways : (s : List ℕ) (st : State) → Way any ends busyOrOut s st
 unfolding ends
 end-ways s st = go (gated (length s) st)
   where
     outer : Sound (length s) st → sound (length s) (left st) ≡ true
     outer q = sound-is (length s) (left st) (record { limits = q .limits; here = q .here; deep = omega (arith, q .deep) })
 
-    out : sound (length s) st ≡ true → busy st ≡ false → (b : Bool) → eqb (st .depth) 0 ≡ b → Way ends busyOrOut s st
+    out : sound (length s) st ≡ true → busy st ≡ false → (b : Bool) → eqb (st .depth) 0 ≡ b → Way any ends busyOrOut s st
     out f w true d = early f (rw (w, d)) (past-gate (λ s st. leaving st) s st (gate-free (length s) st f w) ∙ rw d)
     out f w false d = rests leaving busyOrOut s st f w (rw (w, d)) (left st) (rw d) refl (outer (is-sound (length s) st f))
 
-    go : Gated (length s) st → Way ends busyOrOut s st
+    go : Gated (length s) st → Way any ends busyOrOut s st
     go (bad f g) = unsound f (at-gate (λ s st. leaving st) s st BAD-STATE g (omega arith))
     go (turn f w g) = early f (rw w) (at-gate (λ s st. leaving st) s st OUT-OF-TURN g (omega arith))
     go (through f w g) = out f w (eqb (st .depth) 0) refl

@@ -3,6 +3,7 @@ pub mod Cases
 pub mod Refusals
 pub mod Laws
 pub mod Each
+pub mod Other
 pub mod Handed
 pub mod Structs
 pub mod Table

@@ -23,8 +23,8 @@ use Rattle.types.specs.declared.MessageTypeRead.the-variants as MR
 use Rattle.types.specs.declared.TConfiguration.{TConfiguration}
 use Rattle.numbers.specs.Varint.{Found, got, refused, groups, keep, varint}
 use Rattle.numbers.proofs.Found.{which}
-use Rattle.heads.specs.Reader.{Reader, done, refuse, andThen, provided, byte, some}
-use Rattle.heads.specs.Heads.{int8, number32, number64, int16, int32, int64, double, uuid, truth, binary, text, typed, counted, listed, items, mapped, pairs, fieldId, ofType, field, messageTyped, named, versioned, message}
+use Rattle.heads.specs.Reader.{Reader, done, refuse, andThen, provided, byte, some, ahead, backed}
+use Rattle.heads.specs.Heads.{int8, number32, number64, int16, int32, int64, double, uuid, truth, binary, text, typed, counted, listed, items, mapped, pairs, itemsHead, pairsHead, fieldId, ofType, field, messageTyped, named, versioned, message}
 use Rattle.heads.proofs.Lawful.{not-both}
 use Rattle.heads.proofs.Steps.{lost-at}
 
@@ -97,6 +97,18 @@ some-told n bs why e = go (leb n (length bs)) refl
     go : (t : Bool) → leb n (length bs) ≡ t → Shown why
     go true f = not-both (sym (rw f at e))
     go false f = as-shown {A = List ℕ} END why (shown END refl) (rw f at e)
+
+ahead-told : {A : Type 0} (n : ℕ) (a : A) → Told (ahead n a)
+unfolding ahead
+ahead-told {A} n a bs why e = go (leb n (length bs)) refl
+  where
+    go : (t : Bool) → leb n (length bs) ≡ t → Shown why
+    go true f = not-both (sym (rw f at e))
+    go false f = as-shown {A = A} END why (shown END refl) (rw f at e)
+
+backed-told : {A : Type 0} (need : A → ℕ) (p : Reader A) → Told p → Told (backed need p)
+unfolding backed
+backed-told need p h = then-told p _ h (λ a. ahead-told (need a) a)
 
 -- varints
 whole : (w : ℕ) (x : Found ℕ) (why : ℕ) → keep w x ≡ refused why → x ≡ refused why
@@ -247,6 +259,14 @@ module _ (lim : TConfiguration) where
   pub pairs-told : Told (pairs lim)
   unfolding pairs
   pairs-told = then-told _ _ number32-told (λ n. cond-told (eqb n 0) _ _ (done-told _) (mapped-told n))
+
+  pub itemsHead-told : Told (itemsHead lim)
+  unfolding itemsHead
+  itemsHead-told = backed-told _ (items lim) items-told
+
+  pub pairsHead-told : Told (pairsHead lim)
+  unfolding pairsHead
+  pairsHead-told = backed-told _ (pairs lim) pairs-told
 
   named-told : (m : TMessageType) → Told (named lim m)
   unfolding named

@@ -1,7 +1,7 @@
 -- What each call answers. Assumes nothing: these are definitions.
 use Prim.Native.Nat.{ℕ}
 use mathlib.Core.List.{List}
-use Rattle.heads.specs.Heads.{int8, int16, int32, int64, double, uuid, binary, text, items, pairs, field, message}
+use Rattle.heads.specs.Heads.{int8, int16, int32, int64, double, uuid, binary, text, itemsHead, pairsHead, field, message}
 use Rattle.input.specs.State.{State}
 use Rattle.input.specs.declared.ReadBool.{ReadBool}
 use Rattle.input.specs.declared.ReadI8.{ReadI8}
@@ -49,14 +49,14 @@ unfoldable pub readString : List ℕ → State → ReadPart
 readString s st = asPart (calls (λ st. text (st .limits)) stays s st)
 
 unfoldable pub readList : List ℕ → State → ReadList
-readList s st = asList (calls (λ st. items (st .limits)) stays s st)
+readList s st = asList (calls (λ st. itemsHead (st .limits)) stays s st)
 
 -- "List, set": one header
 unfoldable pub readSet : List ℕ → State → ReadList
-readSet s st = asList (calls (λ st. items (st .limits)) stays s st)
+readSet s st = asList (calls (λ st. itemsHead (st .limits)) stays s st)
 
 unfoldable pub readMap : List ℕ → State → ReadMap
-readMap s st = asMap (calls (λ st. pairs (st .limits)) stays s st)
+readMap s st = asMap (calls (λ st. pairsHead (st .limits)) stays s st)
 
 unfoldable pub readField : List ℕ → State → ReadField
 readField s st = asField (calls (λ st. field (st .last .0)) onField s st)

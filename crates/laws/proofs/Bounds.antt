@@ -15,10 +15,11 @@ use Rattle.types.specs.Value.{Tree, Trees, tree, Pairs, pair, Fields}
 use Rattle.types.specs.Refusals.{OUT-OF-TURN, BAD-STATE}
 use Rattle.numbers.specs.Varint.{Found, got, refused, placed}
 use Rattle.heads.specs.Reader.{Reader, readAt}
-use Rattle.heads.specs.Heads.{int8, int16, int32, int64, double, uuid, binary, text, items, pairs, Field, stop, bool, value, field}
+use Rattle.heads.specs.Heads.{int8, int16, int32, int64, double, uuid, binary, text, itemsHead, pairsHead, Field, stop, bool, value, field}
 use Rattle.heads.specs.Answers.{place}
 use Rattle.heads.proofs.Lawful.{Lawful, Takes, then-takes}
-use Rattle.heads.proofs.Readers.{int8-lawful, int16-lawful, int32-lawful, int64-lawful, double-lawful, uuid-lawful, binary-lawful, text-lawful, items-lawful, pairs-lawful, field-lawful, int8-takes, int16-takes, int32-takes, int64-takes, double-takes, uuid-takes, binary-takes, items-takes, pairs-takes, field-takes}
+use Rattle.heads.proofs.Ahead.{Fair, lawful-fair, itemsHead-fair, itemsHead-takes, pairsHead-fair, pairsHead-takes}
+use Rattle.heads.proofs.Readers.{int8-lawful, int16-lawful, int32-lawful, int64-lawful, double-lawful, uuid-lawful, binary-lawful, text-lawful, field-lawful, int8-takes, int16-takes, int32-takes, int64-takes, double-takes, uuid-takes, binary-takes, field-takes}
 use Rattle.input.specs.State.{State, sound, gate, movedTo}
 use Rattle.input.specs.Outcome.{Outcome, answers, declines, from, calls, stays, bools, begins, ends, onField}
 use Rattle.input.specs.Answers.{asBool, asI8, asI16, asI32, asI64, asDouble, asPart, asList, asMap, asField, asDone}
@@ -26,7 +27,7 @@ use Rattle.input.specs.Calls.{readBool, readI8, readI16, readI32, readI64, read
 use Rattle.input.specs.declared.FieldAnswer.{FieldAnswer}
 use Rattle.input.specs.declared.FieldAnswer.the-variants as F
 use Rattle.input.proofs.Gate.{is-sound, Gated, bad, turn, through, gated}
-use Rattle.input.proofs.Laws.{Way, unsound, early, lost, well, bool-ways, begin-ways, end-ways}
+use Rattle.input.proofs.Laws.{any, Way, unsound, early, lost, well, bool-ways, begin-ways, end-ways}
 use Rattle.laws.specs.Text.{Form, binaries, strings, Plan, under, keyUnder, valueUnder}
 use Rattle.laws.specs.Reading.{Took, took, halted, andOn, made, ofBool, ofI8, ofI16, ofI32, ofI64, ofDouble, ofPart, ofList, ofMap, ofDone, aBool, anI8, anI16, anI32, anI64, aDouble, aUuid, aString, aList, aSet, aMap, aBegin, anEnd, readAll, readPairs, behindHeader, readFields, Holders, holding, none, byType, holders, readLevels, readOf}
 use Rattle.laws.proofs.Exact.{no-took, parts, unmade}
@@ -54,7 +55,7 @@ module _ (s : List ℕ) where
   on-then a b c p q = (omega (arith, p .0, q .0), q .1)
 
   -- a call that reads goes on by a byte at least, from whatever state
-  module _ {A B : Type 0} (p : State → Reader A) (move : State → A → State) (out : Outcome A → Took B) (lawful : (st : State) → Lawful (p st)) (takes : (st : State) → Takes (p st)) (gone : (why : ℕ) (st : State) → out (declines why st) ≡ halted why) (kept : (a : A) (x : State) (b : B) (next : State) → out (answers a x) ≡ took b next → x ≡ next) where
+  module _ {A B : Type 0} (p : State → Reader A) (move : State → A → State) (out : Outcome A → Took B) (lawful : (st : State) → Fair (p st)) (takes : (st : State) → Takes (p st)) (gone : (why : ℕ) (st : State) → out (declines why st) ≡ halted why) (kept : (a : A) (x : State) (b : B) (next : State) → out (answers a x) ≡ took b next → x ≡ next) where
     reads-past : (st next : State) (b : B) → out (calls p move s st) ≡ took b next → Past st next
     unfolding calls readAt
     reads-past st next b e = go (gated (length s) st)
@@ -74,44 +75,44 @@ module _ (s : List ℕ) where
 
   int8-past : (st next : State) (z : ℤ) → anI8 s st ≡ took z next → Past st next
   unfolding readI8
-  int8-past st next z e = reads-past (λ x. int8) stays (λ o. ofI8 (asI8 o .answer) (asI8 o .state)) (λ x. int8-lawful) (λ x. int8-takes) (λ why x. refl) (λ a x b y f. state-of f) st next z e
+  int8-past st next z e = reads-past (λ x. int8) stays (λ o. ofI8 (asI8 o .answer) (asI8 o .state)) (λ x. lawful-fair _ int8-lawful) (λ x. int8-takes) (λ why x. refl) (λ a x b y f. state-of f) st next z e
 
   int16-past : (st next : State) (z : ℤ) → anI16 s st ≡ took z next → Past st next
   unfolding readI16
-  int16-past st next z e = reads-past (λ x. int16) stays (λ o. ofI16 (asI16 o .answer) (asI16 o .state)) (λ x. int16-lawful) (λ x. int16-takes) (λ why x. refl) (λ a x b y f. state-of f) st next z e
+  int16-past st next z e = reads-past (λ x. int16) stays (λ o. ofI16 (asI16 o .answer) (asI16 o .state)) (λ x. lawful-fair _ int16-lawful) (λ x. int16-takes) (λ why x. refl) (λ a x b y f. state-of f) st next z e
 
   int32-past : (st next : State) (z : ℤ) → anI32 s st ≡ took z next → Past st next
   unfolding readI32
-  int32-past st next z e = reads-past (λ x. int32) stays (λ o. ofI32 (asI32 o .answer) (asI32 o .state)) (λ x. int32-lawful) (λ x. int32-takes) (λ why x. refl) (λ a x b y f. state-of f) st next z e
+  int32-past st next z e = reads-past (λ x. int32) stays (λ o. ofI32 (asI32 o .answer) (asI32 o .state)) (λ x. lawful-fair _ int32-lawful) (λ x. int32-takes) (λ why x. refl) (λ a x b y f. state-of f) st next z e
 
   int64-past : (st next : State) (z : ℤ) → anI64 s st ≡ took z next → Past st next
   unfolding readI64
-  int64-past st next z e = reads-past (λ x. int64) stays (λ o. ofI64 (asI64 o .answer) (asI64 o .state)) (λ x. int64-lawful) (λ x. int64-takes) (λ why x. refl) (λ a x b y f. state-of f) st next z e
+  int64-past st next z e = reads-past (λ x. int64) stays (λ o. ofI64 (asI64 o .answer) (asI64 o .state)) (λ x. lawful-fair _ int64-lawful) (λ x. int64-takes) (λ why x. refl) (λ a x b y f. state-of f) st next z e
 
   double-past : (st next : State) (n : ℕ) → aDouble s st ≡ took n next → Past st next
   unfolding readDouble
-  double-past st next n e = reads-past (λ x. double) stays (λ o. ofDouble (asDouble o .answer) (asDouble o .state)) (λ x. double-lawful) (λ x. double-takes) (λ why x. refl) (λ a x b y f. state-of f) st next n e
+  double-past st next n e = reads-past (λ x. double) stays (λ o. ofDouble (asDouble o .answer) (asDouble o .state)) (λ x. lawful-fair _ double-lawful) (λ x. double-takes) (λ why x. refl) (λ a x b y f. state-of f) st next n e
 
   uuid-past : (st next : State) (u : List ℕ) → aUuid s st ≡ took u next → Past st next
   unfolding readUuid
-  uuid-past st next u e = reads-past (λ x. uuid) stays (λ o. ofPart (uuidPart s st) (asPart o .answer) (asPart o .state)) (λ x. uuid-lawful) (λ x. uuid-takes) (λ why x. refl) (λ a x b y f. state-of f) st next u e
+  uuid-past st next u e = reads-past (λ x. uuid) stays (λ o. ofPart (uuidPart s st) (asPart o .answer) (asPart o .state)) (λ x. lawful-fair _ uuid-lawful) (λ x. uuid-takes) (λ why x. refl) (λ a x b y f. state-of f) st next u e
 
   string-past : (form : Form) (st next : State) (cs : List ℕ) → aString form s st ≡ took cs next → Past st next
   unfolding readBytes readString
-  string-past binaries st next cs e = reads-past (λ x. binary (x .limits)) stays (λ o. ofPart (bytesPart s st) (asPart o .answer) (asPart o .state)) (λ x. binary-lawful (x .limits)) (λ x. binary-takes (x .limits)) (λ why x. refl) (λ a x b y f. state-of f) st next cs e
-  string-past strings st next cs e = reads-past (λ x. text (x .limits)) stays (λ o. ofPart (stringPart s st) (asPart o .answer) (asPart o .state)) (λ x. text-lawful (x .limits)) (λ x. text-takes (x .limits)) (λ why x. refl) (λ a x b y f. state-of f) st next cs e
+  string-past binaries st next cs e = reads-past (λ x. binary (x .limits)) stays (λ o. ofPart (bytesPart s st) (asPart o .answer) (asPart o .state)) (λ x. lawful-fair _ (binary-lawful (x .limits))) (λ x. binary-takes (x .limits)) (λ why x. refl) (λ a x b y f. state-of f) st next cs e
+  string-past strings st next cs e = reads-past (λ x. text (x .limits)) stays (λ o. ofPart (stringPart s st) (asPart o .answer) (asPart o .state)) (λ x. lawful-fair _ (text-lawful (x .limits))) (λ x. text-takes (x .limits)) (λ why x. refl) (λ a x b y f. state-of f) st next cs e
 
   list-past : (st next : State) (h : TType × ℕ) → aList s st ≡ took h next → Past st next
   unfolding readList
-  list-past st next h e = reads-past (λ x. items (x .limits)) stays (λ o. ofList (asList o .answer) (asList o .state)) (λ x. items-lawful (x .limits)) (λ x. items-takes (x .limits)) (λ why x. refl) (λ a x b y f. state-of f) st next h e
+  list-past st next h e = reads-past (λ x. itemsHead (x .limits)) stays (λ o. ofList (asList o .answer) (asList o .state)) (λ x. itemsHead-fair (x .limits)) (λ x. itemsHead-takes (x .limits)) (λ why x. refl) (λ a x b y f. state-of f) st next h e
 
   set-past : (st next : State) (h : TType × ℕ) → aSet s st ≡ took h next → Past st next
   unfolding readSet
-  set-past st next h e = reads-past (λ x. items (x .limits)) stays (λ o. ofList (asList o .answer) (asList o .state)) (λ x. items-lawful (x .limits)) (λ x. items-takes (x .limits)) (λ why x. refl) (λ a x b y f. state-of f) st next h e
+  set-past st next h e = reads-past (λ x. itemsHead (x .limits)) stays (λ o. ofList (asList o .answer) (asList o .state)) (λ x. itemsHead-fair (x .limits)) (λ x. itemsHead-takes (x .limits)) (λ why x. refl) (λ a x b y f. state-of f) st next h e
 
   map-past : (st next : State) (h : TType × TType × ℕ) → aMap s st ≡ took h next → Past st next
   unfolding readMap
-  map-past st next h e = reads-past (λ x. pairs (x .limits)) stays (λ o. ofMap (asMap o .answer) (asMap o .state)) (λ x. pairs-lawful (x .limits)) (λ x. pairs-takes (x .limits)) (λ why x. refl) (λ a x b y f. state-of f) st next h e
+  map-past st next h e = reads-past (λ x. pairsHead (x .limits)) stays (λ o. ofMap (asMap o .answer) (asMap o .state)) (λ x. pairsHead-fair (x .limits)) (λ x. pairsHead-takes (x .limits)) (λ why x. refl) (λ a x b y f. state-of f) st next h e
 
   -- a field's header, as an answer with its state
   headed : FieldAnswer → State → Took FieldAnswer
@@ -121,7 +122,7 @@ module _ (s : List ℕ) where
 
   field-past : (st next : State) (x : FieldAnswer) → headed (readField s st .answer) (readField s st .state) ≡ took x next → Past st next
   unfolding readField headed
-  field-past st next x e = reads-past (λ y. field (y .last .0)) onField (λ o. headed (asField o .answer) (asField o .state)) (λ y. field-lawful (y .last .0)) (λ y. field-takes (y .last .0)) (λ why y. refl) same st next x e
+  field-past st next x e = reads-past (λ y. field (y .last .0)) onField (λ o. headed (asField o .answer) (asField o .state)) (λ y. lawful-fair _ (field-lawful (y .last .0))) (λ y. field-takes (y .last .0)) (λ why y. refl) same st next x e
     where
       same : (a : Field) (y : State) (b : FieldAnswer) (z : State) → headed (asField (answers a y) .answer) y ≡ took b z → y ≡ z
       same stop y b z f = state-of f
@@ -129,16 +130,16 @@ module _ (s : List ℕ) where
       same (value t id) y b z f = state-of f
 
   -- a call that may rest where it is
-  module _ {A B : Type 0} (call : List ℕ → State → Outcome A) (late : State → Bool) (ways : (st : State) → Way call late s st) (out : Outcome A → Took B) (gone : (why : ℕ) (st : State) → out (declines why st) ≡ halted why) (kept : (a : A) (x : State) (b : B) (next : State) → out (answers a x) ≡ took b next → x ≡ next) where
+  module _ {A B : Type 0} (call : List ℕ → State → Outcome A) (late : State → Bool) (ways : (st : State) → Way any call late s st) (out : Outcome A → Took B) (gone : (why : ℕ) (st : State) → out (declines why st) ≡ halted why) (kept : (a : A) (x : State) (b : B) (next : State) → out (answers a x) ≡ took b next → x ≡ next) where
     rests-on : (st next : State) (b : B) → out (call s st) ≡ took b next → On st next
     rests-on st next b e = go (ways st)
       where
-        go : Way call late s st → On st next
+        go : Way any call late s st → On st next
         go (unsound f g) = no-took (sym (gone BAD-STATE st) ∙ sym (ap out g) ∙ e)
         go (early f l g) = no-took (sym (gone OUT-OF-TURN st) ∙ sym (ap out g) ∙ e)
         go (lost f l why w g) = no-took (sym (gone why st) ∙ sym (ap out g) ∙ e)
-        go (well f l a y lo hi g) =
-            let q = kept a y b next (sym (ap out (g s refl)) ∙ e) in
+        go (well f l a y lo hi g h) =
+            let q = kept a y b next (sym (ap out g) ∙ e) in
             subst (On st) q (lo, is-sound (length s) y hi .here)
 
   bool-on : (st next : State) (b : Bool) → aBool s st ≡ took b next → On st next

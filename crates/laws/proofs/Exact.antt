@@ -3,7 +3,7 @@ use mathlib.Core.Path.{_≡_, refl, sym, ap, ap₂, subst, _∙_}
 use mathlib.Core.Bool.{Bool, true, false}
 use mathlib.Core.Logic.{inl, inr}
 use mathlib.Core.List.{List, [], _++_}
-use Prim.Native.Nat.{ℕ, zero, suc, _+_, _-_, _≤_, _<_}
+use Prim.Native.Nat.{ℕ, zero, suc, _+_, _-_, _*_, _≤_, _<_}
 use native.Mathlib.Omega.{arith}
 use borrow.Author.Tests.{eq-eqb}
 use lib.ListN.{length, take, drop, length-drop, take-append-drop}
@@ -21,12 +21,13 @@ use Rattle.types.specs.Value.{Tree, Trees, no-trees, tree, Pairs, no-pairs, pai
 use Rattle.numbers.specs.Varint.{Found, got, refused}
 use Rattle.numbers.proofs.Found.{take-drop}
 use Rattle.utf8.specs.Utf8.{utf8}
-use Rattle.heads.specs.Reader.{Reader, readAt, Whole, andThen, provided, done}
-use Rattle.heads.specs.Heads.{int8, int16, int32, int64, double, uuid, truth, binary, text, items, pairs, Field, stop, bool, value, field, Message, message}
+use Rattle.heads.specs.Reader.{Reader, readAt, Whole, andThen, provided, done, backed}
+use Rattle.heads.specs.Heads.{int8, int16, int32, int64, double, uuid, truth, binary, text, items, pairs, leastSize, itemsHead, pairsHead, Field, stop, bool, value, field, Message, message}
 use Rattle.heads.specs.Answers.{place, idOf}
 use Rattle.heads.specs.Spells.{Spells, SpellsAll, SpellsPairs, SpellsFields, Formed}
 use Rattle.heads.proofs.Lawful.{Lawful, both, not-both, whole-of}
 use Rattle.heads.proofs.Steps.{found-at}
+use Rattle.heads.proofs.Ahead.{was-backed}
 use Rattle.heads.proofs.Readers.{int8-lawful, int16-lawful, int32-lawful, int64-lawful, double-lawful, uuid-lawful, truth-lawful, binary-lawful, text-lawful, items-lawful, pairs-lawful, field-lawful, message-lawful, items-takes, pairs-takes, field-takes}
 use Rattle.input.specs.State.{State, gate, movedTo, entered}
 use Rattle.input.specs.Outcome.{Outcome, answers, declines, from, calls, stays, element, bools, anew, onField}
@@ -78,6 +79,12 @@ text-apart l cs bs w =
     let g = done-text cs (f .one) (drop (f .used) bs) (f .more) (utf8 (f .one)) refl (f .second) in
     (f .first ∙ ap₂ got (g .0) (omega (arith, f .all, g .1)), g .2)
 
+abbrev items-need : TType × ℕ → ℕ
+items-need h = h .1 * leastSize (h .0)
+
+abbrev pairs-need : TType × TType × ℕ → ℕ
+pairs-need h = h .2 * leastSize (h .0) + h .2 * leastSize (h .1)
+
 module _ (s : List ℕ) (lim : TConfiguration) (ok : inRange lim ≡ true) where
   -- what stands at a state's place, in so many bytes
   pub record Seen {A : Type 0} (p : Reader A) (a : A) (st : State) : Type 0 where
@@ -91,6 +98,22 @@ module _ (s : List ℕ) (lim : TConfiguration) (ok : inRange lim ≡ true) where
       let bs = drop (st .place .0) s in
       let g = found-at (st .place .0) (p bs) a e f in
       record { size = g .0; inside = omega (arith, lp .ends bs a (g .0) (g .1), length-drop (st .place .0) s); whole = whole-of p lp bs a (g .0) (g .1) }
+
+  -- a header there, with as many bytes ahead as it asks for
+  pub record SeenHead {A : Type 0} (p : Reader A) (need : A → ℕ) (a : A) (st : State) : Type 0 where
+    pub seen : Seen p a st
+    pub ahead : need a ≤ length (drop (seen .size) (drop (st .place .0) s))
+
+  seen-head : {A : Type 0} (need : A → ℕ) (p : Reader A) → Lawful p → (a : A) (e : ℕ) (st : State) → st .place .0 ≤ length s → readAt (backed need p) s (st .place .0) ≡ got a e → SeenHead p need a st
+  unfolding readAt
+  seen-head need p lp a e st h f =
+      let bs = drop (st .place .0) s in
+      let g = found-at (st .place .0) (backed need p bs) a e f in
+      let w = was-backed need p bs a (g .0) (g .1) in
+      record {
+        seen = record { size = g .0; inside = omega (arith, lp .ends bs a (g .0) (w .0), length-drop (st .place .0) s); whole = whole-of p lp bs a (g .0) (w .0) };
+        ahead = w .1;
+      }
 
   -- a value that the calls gave: spelt by the bytes that they took, its strings UTF-8 where they were read as such
   pub record Stood (room : ℕ) (plan : Plan) (ty : TType) (t : Tree) (st : State) : Type 0 where
@@ -118,6 +141,17 @@ module _ (s : List ℕ) (lim : TConfiguration) (ok : inRange lim ≡ true) where
         let h : took (g .0) (movedTo st (place (g .1))) ≡ took b next = sym (well (g .0) (g .1) (movedTo st (place (g .1))) (g .2)) ∙ g .3 in
         let same : g .0 ≡ b = cc in
         subst (λ (a : A). Seen p a st) same (seen p lp (g .0) (g .1) st (r .here) (g .2))
+
+    -- a header, with the bytes that it asks for ahead
+    answered-head : {A : Type 0} (need : A → ℕ) (p : Reader A) → Lawful p → (o : Outcome A) → o ≡ from stays st (readAt (backed need p) s (st .place .0)) → (out : Outcome A → Took A) → ((why : ℕ) → out (declines why st) ≡ halted why) → ((a : A) (x : State) → out (answers a x) ≡ took a x) → (b : A) (next : State) → out o ≡ took b next → SeenHead p need b st
+    answered-head {A} need p lp o q out lost well b next f =
+        let g = found (backed need p) stays o q out lost b next f in
+        let h : took (g .0) (movedTo st (place (g .1))) ≡ took b next = sym (well (g .0) (movedTo st (place (g .1)))) ∙ g .3 in
+        let same : g .0 ≡ b = cc in
+        subst (λ (a : A). SeenHead p need a st) same (seen-head need p lp (g .0) (g .1) st (r .here) (g .2))
+
+    under-lim-head : {A : Type 0} (need : A → ℕ) (p : TConfiguration → Reader A) (a : A) → SeenHead (p (st .limits)) need a st → SeenHead (p lim) need a st
+    under-lim-head need p a w = subst (λ (l : TConfiguration). SeenHead (p l) need a st) (r .lims) w
 
     under-lim : {A : Type 0} (p : TConfiguration → Reader A) (a : A) → Seen (p (st .limits)) a st → Seen (p lim) a st
     under-lim p a w = subst (λ (l : TConfiguration). Seen (p l) a st) (r .lims) w
@@ -152,16 +186,16 @@ module _ (s : List ℕ) (lim : TConfiguration) (ok : inRange lim ≡ true) where
         answered uuid uuid-lawful _ (opened (λ x. uuid) stays) (λ o. ofPart (uuidPart s st) (asPart o .answer) (asPart o .state)) (λ why. refl)
         (λ a e x g. ap (λ (l : List ℕ). took l x) (uuid-handed s st (is-fine s lim ok depth st r d) (is-free s lim ok depth st r) a e g)) u next f
 
-    list-seen : (h : TType × ℕ) (next : State) → aList s st ≡ took h next → Seen (items lim) h st
-    unfolding readList
-    list-seen h next f = under-lim items h (answered (items (st .limits)) (items-lawful (st .limits)) _ (opened (λ x. items (x .limits)) stays) (λ o. ofList (asList o .answer) (asList o .state)) (λ why. refl) (λ a e x g. refl) h next f)
+    list-seen : (h : TType × ℕ) (next : State) → aList s st ≡ took h next → SeenHead (items lim) items-need h st
+    unfolding readList itemsHead
+    list-seen h next f = under-lim-head items-need items h (answered-head items-need (items (st .limits)) (items-lawful (st .limits)) _ (opened (λ x. itemsHead (x .limits)) stays) (λ o. ofList (asList o .answer) (asList o .state)) (λ why. refl) (λ a x. refl) h next f)
 
-    set-seen : (h : TType × ℕ) (next : State) → aSet s st ≡ took h next → Seen (items lim) h st
+    set-seen : (h : TType × ℕ) (next : State) → aSet s st ≡ took h next → SeenHead (items lim) items-need h st
     set-seen h next f = list-seen h next (sym (set-is s lim ok depth st r d) ∙ f)
 
-    map-seen : (h : TType × TType × ℕ) (next : State) → aMap s st ≡ took h next → Seen (pairs lim) h st
-    unfolding readMap
-    map-seen h next f = under-lim pairs h (answered (pairs (st .limits)) (pairs-lawful (st .limits)) _ (opened (λ x. pairs (x .limits)) stays) (λ o. ofMap (asMap o .answer) (asMap o .state)) (λ why. refl) (λ a e x g. refl) h next f)
+    map-seen : (h : TType × TType × ℕ) (next : State) → aMap s st ≡ took h next → SeenHead (pairs lim) pairs-need h st
+    unfolding readMap pairsHead
+    map-seen h next f = under-lim-head pairs-need pairs h (answered-head pairs-need (pairs (st .limits)) (pairs-lawful (st .limits)) _ (opened (λ x. pairsHead (x .limits)) stays) (λ o. ofMap (asMap o .answer) (asMap o .state)) (λ why. refl) (λ a x. refl) h next f)
 
     -- a message's header: the name that was handed out is the one that was read
     message-seen : (m : Message) (next : State) → aMessage s st ≡ took m next → Seen (message lim) m st
@@ -442,10 +476,10 @@ module _ (s : List ℕ) (lim : TConfiguration) (ok : inRange lim ≡ true) where
       e
 
   -- a header and its elements
-  headed : {A : Type 0} (depth : ℕ) (x : Took A) (p : Reader A) (a : A) (st mid : State) → Ready s lim depth st → (w : Seen p a st) → ((bs rest : List ℕ) → Whole p a bs → drop (st .place .0) s ≡ bs ++ rest → Gave x a st (length bs) (st .last)) → x ≡ took a mid → After depth st mid (w .size)
-  headed depth x p a st mid r w give e =
+  headed : {A : Type 0} (depth : ℕ) (x : Took A) (p : Reader A) (a : A) (st mid : State) → Ready s lim depth st → (w : Seen p a st) (need : ℕ) → need ≤ length (drop (w .size) (drop (st .place .0) s)) → ((bs rest : List ℕ) → Whole p a bs → need ≤ length rest → drop (st .place .0) s ≡ bs ++ rest → Gave x a st (length bs) (st .last)) → x ≡ took a mid → After depth st mid (w .size)
+  headed depth x p a st mid r w need ahead give e =
       let at = st .place .0 in
-      after-gave depth x a st mid (w .size) r (w .inside) (subst (λ (k : ℕ). Gave x a st k (st .last)) (part-long at (w .size) (w .inside)) (give (take (w .size) (drop at s)) (drop (w .size) (drop at s)) (w .whole) (part at (w .size)))) e
+      after-gave depth x a st mid (w .size) r (w .inside) (subst (λ (k : ℕ). Gave x a st k (st .last)) (part-long at (w .size) (w .inside)) (give (take (w .size) (drop at s)) (drop (w .size) (drop at s)) (w .whole) ahead (part at (w .size)))) e
 
   head-takes : {A : Type 0} (p : Reader A) (a : A) (st : State) (w : Seen p a st) → ((bs : List ℕ) (a : A) (n : ℕ) → p bs ≡ got a n → 0 < n) → 0 < w .size
   head-takes p a st w h =
@@ -454,7 +488,7 @@ module _ (s : List ℕ) (lim : TConfiguration) (ok : inRange lim ≡ true) where
 
   module _ (levels : ℕ) (ih : Only levels) (plan : Plan) (room depth : ℕ) (st next : State) (r : Ready s lim depth st) (d : depth + room ≤ lim .depth) (l : length s < suc levels + st .place .0) where
     -- a list and a set
-    module _ (ty : TType) (x : Took (TType × ℕ)) (g : TType → Trees → Tree) (see : (a : TType × ℕ) (to : State) → x ≡ took a to → Seen (items lim) a st) (give : (a : TType × ℕ) (bs rest : List ℕ) → Whole (items lim) a bs → drop (st .place .0) s ≡ bs ++ rest → Gave x a st (length bs) (st .last)) (nest : (u : TType) (ts : Trees) → nesting (g u ts) ≡ suc (nestingAll ts)) (spell : (u : TType) (ts : Trees) (a b bs : List ℕ) → 0 < room → Whole (items lim) (u, val.size ts) a → SpellsAll ts lim (room - 1) u b → bs ≡ a ++ b → Spells (g u ts) lim room ty bs) (text : (u : TType) (ts : Trees) → TextsAll plan 0 ts → Texts plan (g u ts)) where
+    module _ (ty : TType) (x : Took (TType × ℕ)) (g : TType → Trees → Tree) (see : (a : TType × ℕ) (to : State) → x ≡ took a to → SeenHead (items lim) items-need a st) (give : (a : TType × ℕ) (bs rest : List ℕ) → Whole (items lim) a bs → items-need a ≤ length rest → drop (st .place .0) s ≡ bs ++ rest → Gave x a st (length bs) (st .last)) (nest : (u : TType) (ts : Trees) → nesting (g u ts) ≡ suc (nestingAll ts)) (spell : (u : TType) (ts : Trees) (a b bs : List ℕ) → 0 < room → Whole (items lim) (u, val.size ts) a → SpellsAll ts lim (room - 1) u b → bs ≡ a ++ b → Spells (g u ts) lim room ty bs) (text : (u : TType) (ts : Trees) → TextsAll plan 0 ts → Texts plan (g u ts)) where
       items-join : (u : TType) (k : ℕ) (ts : Trees) (mid : State) → 0 < room → (w : Seen (items lim) (u, k) st) → mid .place .0 ≡ st .place .0 + w .size → StoodAll (room - 1) plan 0 u ts k mid → Stood room plan ty (g u ts) st
       items-join u k ts mid h w q b =
           record {
@@ -467,8 +501,9 @@ module _ (s : List ℕ) (lim : TConfiguration) (ok : inRange lim ≡ true) where
       items-step : (a : TType × ℕ) (mid : State) (ts : Trees) → x ≡ took a mid → readAll (readLevels s levels (a .0)) plan 0 (a .1) mid ≡ took ts next → nesting (g (a .0) ts) ≤ room → Stood room plan ty (g (a .0) ts) st
       items-step a mid ts e f h =
           let n = nest (a .0) ts in
-          let w = see a mid e in
-          let b = headed depth x (items lim) a st mid r w (give a) e in
+          let v = see a mid e in
+          let w = v .seen in
+          let b = headed depth x (items lim) a st mid r w (items-need a) (v .ahead) (give a) e in
           let q = further levels (st .place .0) (mid .place .0) (w .size) l (head-takes (items lim) a st w (items-takes lim)) (b .there) in
           items-join (a .0) (a .1) ts mid (omega arith) w (b .there) (only-all levels ih plan 0 (a .0) (room - 1) depth (a .1) mid next ts (b .ready) (omega arith) q f (omega arith))
 
@@ -492,8 +527,9 @@ module _ (s : List ℕ) (lim : TConfiguration) (ok : inRange lim ≡ true) where
     map-step : (a : TType × TType × ℕ) (mid : State) (ps : Pairs) → aMap s st ≡ took a mid → readPairs (readLevels s levels (a .0)) (readLevels s levels (a .1)) plan 0 (a .2) mid ≡ took ps next → nesting (val.map (a .0) (a .1) ps) ≤ room → Stood room plan T.Map (val.map (a .0) (a .1) ps) st
     unfolding nesting
     map-step a mid ps e f h =
-        let w = map-seen depth st r (omega arith) a mid e in
-        let b = headed depth (aMap s st) (pairs lim) a st mid r w (λ bs rest v q. map-gave s lim ok depth st r (omega arith) (a .0) (a .1) (a .2) bs rest v q) e in
+        let u = map-seen depth st r (omega arith) a mid e in
+        let w = u .seen in
+        let b = headed depth (aMap s st) (pairs lim) a st mid r w (pairs-need a) (u .ahead) (λ bs rest v i q. map-gave s lim ok depth st r (omega arith) (a .0) (a .1) (a .2) bs rest v i q) e in
         let q = further levels (st .place .0) (mid .place .0) (w .size) l (head-takes (pairs lim) a st w (pairs-takes lim)) (b .there) in
         map-join (a .0) (a .1) (a .2) ps mid (omega arith) w (b .there) (only-pairs levels ih plan 0 (a .0) (a .1) (room - 1) depth (a .2) mid next ps (b .ready) (omega arith) q f (omega arith))
 
@@ -546,9 +582,9 @@ module _ (s : List ℕ) (lim : TConfiguration) (ok : inRange lim ≡ true) where
   only (suc levels) plan ty room depth st next t r d l e h =
       by-type plan room depth st next t r (omega arith) (holding s (readLevels s levels))
       (λ f.
-      items-stood levels (only levels) plan room depth st next r d l T.List (aList s st) val.list (λ a to q. list-seen depth st r (omega arith) a to q) (λ a bs rest w q. list-gave s lim ok depth st r (omega arith) (a .0) (a .1) bs rest w q) (λ u ts. refl) (λ u ts a b bs p w q z. (refl, p, (a, b, w, q, z))) (λ u ts x. x) t h f)
+      items-stood levels (only levels) plan room depth st next r d l T.List (aList s st) val.list (λ a to q. list-seen depth st r (omega arith) a to q) (λ a bs rest w i q. list-gave s lim ok depth st r (omega arith) (a .0) (a .1) bs rest w i q) (λ u ts. refl) (λ u ts a b bs p w q z. (refl, p, (a, b, w, q, z))) (λ u ts x. x) t h f)
       (λ f.
-      items-stood levels (only levels) plan room depth st next r d l T.Set (aSet s st) val.set (λ a to q. set-seen depth st r (omega arith) a to q) (λ a bs rest w q. set-gave s lim ok depth st r (omega arith) (a .0) (a .1) bs rest w q) (λ u ts. refl) (λ u ts a b bs p w q z. (refl, p, (a, b, w, q, z))) (λ u ts x. x) t h f)
+      items-stood levels (only levels) plan room depth st next r d l T.Set (aSet s st) val.set (λ a to q. set-seen depth st r (omega arith) a to q) (λ a bs rest w i q. set-gave s lim ok depth st r (omega arith) (a .0) (a .1) bs rest w i q) (λ u ts. refl) (λ u ts a b bs p w q z. (refl, p, (a, b, w, q, z))) (λ u ts x. x) t h f)
       (λ f. map-stood levels (only levels) plan room depth st next r d l t h f)
       (λ f. struct-stood levels (only levels) plan room depth st next r d l t h f) ty e
 

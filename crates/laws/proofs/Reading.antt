@@ -4,7 +4,7 @@ use mathlib.Core.Path.{_≡_, refl, sym, ap, subst, _∙_}
 use mathlib.Core.Bool.{Bool, true, false}
 use mathlib.Core.Logic.{_⊎_, ⊎-elim}
 use mathlib.Core.List.{List, [], _++_, append-assoc}
-use Prim.Native.Nat.{ℕ, suc, _+_, _-_, _≤_, _<_}
+use Prim.Native.Nat.{ℕ, suc, _+_, _-_, _*_, _≤_, _<_}
 use native.Mathlib.Nat.{add-zero}
 use native.Mathlib.Omega.{arith}
 use borrow.Author.Tests.{eq-eqb, ne-eqb, lt-leb}
@@ -22,10 +22,12 @@ use Rattle.types.proofs.Limits.{ranged}
 use Rattle.numbers.specs.Varint.{got, placed}
 use Rattle.utf8.specs.Utf8.{utf8}
 use Rattle.heads.specs.Reader.{Reader, readAt, Whole, provided, done}
-use Rattle.heads.specs.Heads.{int8, int16, int32, int64, double, uuid, truth, binary, text, items, pairs, Field, stop, bool, value, field, Message, message}
+use Rattle.heads.specs.Heads.{int8, int16, int32, int64, double, uuid, truth, binary, text, items, pairs, leastSize, itemsHead, pairsHead, Field, stop, bool, value, field, Message, message}
 use Rattle.heads.specs.Answers.{place, idOf}
 use Rattle.heads.specs.Spells.{Spells, SpellsAll, SpellsPairs, SpellsFields}
 use Rattle.heads.proofs.Lawful.{Lawful, then-got, whole-front}
+use Rattle.heads.proofs.Ahead.{items-head, pairs-head}
+use Rattle.skip.proofs.Least.{all-least, pairs-least}
 use Rattle.heads.proofs.Readers.{int8-lawful, int16-lawful, int32-lawful, int64-lawful, double-lawful, uuid-lawful, truth-lawful, binary-lawful, text-lawful, items-lawful, pairs-lawful, field-lawful, message-lawful, items-takes, pairs-takes, field-takes}
 use Rattle.input.specs.State.{State, sound, waits, gate, movedTo, withLast, withPending, entered, left}
 use Rattle.input.specs.Outcome.{Outcome, answers, calls, stays, element, bools, begins, ends, anew, onField}
@@ -130,15 +132,18 @@ module _ (s : List ℕ) (lim : TConfiguration) (ok : inRange lim ≡ true) where
 
   -- a call that moves the place alone
   module _ (depth : ℕ) (st : State) (r : Ready s lim depth st) (d : depth ≤ lim .depth) where
-    called : {A B : Type 0} (p : State → Reader A) → Lawful (p st) → (out : Outcome A → Took B) (a : A) (b : B) (bs rest : List ℕ) → ((next : State) → out (answers a next) ≡ took b next) → Whole (p st) a bs → drop (st .place .0) s ≡ bs ++ rest → Gave (out (calls p stays s st)) b st (length bs) (st .last)
-    called p lp out a b bs rest q w e =
+    called-at : {A B : Type 0} (p : State → Reader A) (out : Outcome A → Took B) (a : A) (b : B) (n : ℕ) → ((next : State) → out (answers a next) ≡ took b next) → readAt (p st) s (st .place .0) ≡ got a (st .place .0 + n) → Gave (out (calls p stays s st)) b st n (st .last)
+    called-at p out a b n q w =
         record {
-          next = movedTo st (place (st .place .0 + length bs));
-          is = ap out (read-well p stays s st (is-fine depth st r d) (is-free depth st r) a (st .place .0 + length bs) (stands (p st) lp a bs rest st w e)) ∙ q _;
-          kept = kept-place st (length bs);
+          next = movedTo st (place (st .place .0 + n));
+          is = ap out (read-well p stays s st (is-fine depth st r d) (is-free depth st r) a (st .place .0 + n) w) ∙ q _;
+          kept = kept-place st n;
           ends = refl;
           free = r .free;
         }
+
+    called : {A B : Type 0} (p : State → Reader A) → Lawful (p st) → (out : Outcome A → Took B) (a : A) (b : B) (bs rest : List ℕ) → ((next : State) → out (answers a next) ≡ took b next) → Whole (p st) a bs → drop (st .place .0) s ≡ bs ++ rest → Gave (out (calls p stays s st)) b st (length bs) (st .last)
+    called p lp out a b bs rest q w e = called-at p out a b (length bs) q (stands (p st) lp a bs rest st w e)
 
     int8-gave : (z : ℤ) (bs rest : List ℕ) → Whole int8 z bs → drop (st .place .0) s ≡ bs ++ rest → Gave (anI8 s st) z st (length bs) (st .last)
     unfolding readI8
@@ -185,23 +190,27 @@ module _ (s : List ℕ) (lim : TConfiguration) (ok : inRange lim ≡ true) where
         called (λ x. text (x .limits)) (text-lawful (st .limits)) (λ o. ofPart (stringPart s st) (asPart o .answer) (asPart o .state)) cs cs bs rest
         (λ n. ap (λ (l : List ℕ). took l n) (string-handed s st (is-fine depth st r d) (is-free depth st r) cs _ (stands (text (st .limits)) (text-lawful (st .limits)) cs bs rest st v e))) v e
 
-    pub list-gave : (t : TType) (n : ℕ) (bs rest : List ℕ) → Whole (items lim) (t, n) bs → drop (st .place .0) s ≡ bs ++ rest → Gave (aList s st) (t, n) st (length bs) (st .last)
-    unfolding readList
-    list-gave t n bs rest w e =
-        called (λ x. items (x .limits)) (items-lawful (st .limits)) (λ o. ofList (asList o .answer) (asList o .state)) (t, n) (t, n) bs rest (λ n. refl) (there items (t, n) bs w) e
+    pub list-gave : (t : TType) (n : ℕ) (bs rest : List ℕ) → Whole (items lim) (t, n) bs → n * leastSize t ≤ length rest → drop (st .place .0) s ≡ bs ++ rest → Gave (aList s st) (t, n) st (length bs) (st .last)
+    unfolding readList readAt
+    list-gave t n bs rest w l e =
+        called-at (λ x. itemsHead (x .limits)) (λ o. ofList (asList o .answer) (asList o .state)) (t, n) (t, n) (length bs) (λ n. refl)
+        (ap (λ (cs : List ℕ). placed (st .place .0) (itemsHead (st .limits) cs)) e
+        ∙ ap (placed (st .place .0)) (items-head (st .limits) (bs ++ rest) t n (length bs) (whole-front (items (st .limits)) (items-lawful (st .limits)) bs (t, n) (there items (t, n) bs w) rest) (rw (drop-append-seam bs rest) l)))
 
     -- "List, set": one header
     pub set-is : aSet s st ≡ aList s st
     unfolding readList readSet
     set-is = refl
 
-    pub set-gave : (t : TType) (n : ℕ) (bs rest : List ℕ) → Whole (items lim) (t, n) bs → drop (st .place .0) s ≡ bs ++ rest → Gave (aSet s st) (t, n) st (length bs) (st .last)
-    set-gave t n bs rest w e = subst (λ (x : Took (TType × ℕ)). Gave x (t, n) st (length bs) (st .last)) (sym set-is) (list-gave t n bs rest w e)
+    pub set-gave : (t : TType) (n : ℕ) (bs rest : List ℕ) → Whole (items lim) (t, n) bs → n * leastSize t ≤ length rest → drop (st .place .0) s ≡ bs ++ rest → Gave (aSet s st) (t, n) st (length bs) (st .last)
+    set-gave t n bs rest w l e = subst (λ (x : Took (TType × ℕ)). Gave x (t, n) st (length bs) (st .last)) (sym set-is) (list-gave t n bs rest w l e)
 
-    pub map-gave : (k v : TType) (n : ℕ) (bs rest : List ℕ) → Whole (pairs lim) (k, v, n) bs → drop (st .place .0) s ≡ bs ++ rest → Gave (aMap s st) (k, v, n) st (length bs) (st .last)
-    unfolding readMap
-    map-gave k v n bs rest w e =
-        called (λ x. pairs (x .limits)) (pairs-lawful (st .limits)) (λ o. ofMap (asMap o .answer) (asMap o .state)) (k, v, n) (k, v, n) bs rest (λ n. refl) (there pairs (k, v, n) bs w) e
+    pub map-gave : (k v : TType) (n : ℕ) (bs rest : List ℕ) → Whole (pairs lim) (k, v, n) bs → n * leastSize k + n * leastSize v ≤ length rest → drop (st .place .0) s ≡ bs ++ rest → Gave (aMap s st) (k, v, n) st (length bs) (st .last)
+    unfolding readMap readAt
+    map-gave k v n bs rest w l e =
+        called-at (λ x. pairsHead (x .limits)) (λ o. ofMap (asMap o .answer) (asMap o .state)) (k, v, n) (k, v, n) (length bs) (λ n. refl)
+        (ap (λ (cs : List ℕ). placed (st .place .0) (pairsHead (st .limits) cs)) e
+        ∙ ap (placed (st .place .0)) (pairs-head (st .limits) (bs ++ rest) k v n (length bs) (whole-front (pairs (st .limits)) (pairs-lawful (st .limits)) bs (k, v, n) (there pairs (k, v, n) bs w) rest) (rw (drop-append-seam bs rest) l)))
 
     -- an element's bool
     bool-gave : (b : Bool) (bs rest : List ℕ) → Whole truth b bs → drop (st .place .0) s ≡ bs ++ rest → Gave (aBool s st) b st (length bs) (st .last)
@@ -476,7 +485,7 @@ module _ (s : List ℕ) (lim : TConfiguration) (ok : inRange lim ≡ true) where
         let f = fewer h b bs levels (sp .2 .4) (items-takes lim h (t, size ts) (length h) (sp .2 .2)) l in
         held levels plan ty T.List _ st _ _ (sp .0) (f .0)
         (step-on depth st (st .last) (aList s st) _ (t, size ts) (val.list t ts) h b bs rest (sp .2 .4) r e
-        (λ q. list-gave depth st r (omega arith) t (size ts) h (b ++ rest) (sp .2 .2) q)
+        (λ q. list-gave depth st r (omega arith) t (size ts) h (b ++ rest) (sp .2 .2) (omega (arith, all-least ts lim (room - 1) t b (sp .2 .3), length-append b rest)) q)
         (λ n rn q. gave-made (val.list t) _ ts n _ _ (read-all plan 0 ts (room - 1) (levels - 1) depth t b rest n (sp .2 .3) x rn (omega arith) (f .1) q)))
     read-tree plan (val.set t ts) room levels depth ty bs rest st sp x r d l e =
         let h : List ℕ = sp .2 .0 in
@@ -484,7 +493,7 @@ module _ (s : List ℕ) (lim : TConfiguration) (ok : inRange lim ≡ true) where
         let f = fewer h b bs levels (sp .2 .4) (items-takes lim h (t, size ts) (length h) (sp .2 .2)) l in
         held levels plan ty T.Set _ st _ _ (sp .0) (f .0)
         (step-on depth st (st .last) (aSet s st) _ (t, size ts) (val.set t ts) h b bs rest (sp .2 .4) r e
-        (λ q. set-gave depth st r (omega arith) t (size ts) h (b ++ rest) (sp .2 .2) q)
+        (λ q. set-gave depth st r (omega arith) t (size ts) h (b ++ rest) (sp .2 .2) (omega (arith, all-least ts lim (room - 1) t b (sp .2 .3), length-append b rest)) q)
         (λ n rn q. gave-made (val.set t) _ ts n _ _ (read-all plan 0 ts (room - 1) (levels - 1) depth t b rest n (sp .2 .3) x rn (omega arith) (f .1) q)))
     read-tree plan (val.map k v ps) room levels depth ty bs rest st sp x r d l e =
         let h : List ℕ = sp .2 .0 in
@@ -492,7 +501,7 @@ module _ (s : List ℕ) (lim : TConfiguration) (ok : inRange lim ≡ true) where
         let f = fewer h b bs levels (sp .2 .4) (pairs-takes lim h (k, v, sizeP ps) (length h) (sp .2 .2)) l in
         held levels plan ty T.Map _ st _ _ (sp .0) (f .0)
         (step-on depth st (st .last) (aMap s st) _ (k, v, sizeP ps) (val.map k v ps) h b bs rest (sp .2 .4) r e
-        (λ q. map-gave depth st r (omega arith) k v (sizeP ps) h (b ++ rest) (sp .2 .2) q)
+        (λ q. map-gave depth st r (omega arith) k v (sizeP ps) h (b ++ rest) (sp .2 .2) (omega (arith, pairs-least ps lim (room - 1) k v b (sp .2 .3), length-append b rest)) q)
         (λ n rn q. gave-made (val.map k v) _ ps n _ _ (read-pairs plan 0 ps (room - 1) (levels - 1) depth k v b rest n (sp .2 .3) x rn (omega arith) (f .1) q)))
     read-tree plan (val.struct fs) room levels depth ty bs rest st sp x r d l e =
         let i = at-inside s bs rest (st .place .0) (r .here) e in

@@ -17,8 +17,8 @@ use Rattle.numbers.specs.Varint.{fewest}
 use Rattle.numbers.specs.Answers.{wroteAt, putAt}
 use Rattle.numbers.specs.Fixed.{eight}
 use Rattle.utf8.specs.Utf8.{utf8, past, decode}
-use Rattle.heads.specs.Reader.{done, refuse, andThen, provided, byte, some, readAt}
-use Rattle.heads.specs.Heads.{int8, number32, number64, int16, int32, int64, double, uuid, truth, binary, text, counted, listed, items, mapped, pairs, fieldId, field, named, versioned, message}
+use Rattle.heads.specs.Reader.{done, refuse, andThen, provided, byte, some, ahead, backed, readAt}
+use Rattle.heads.specs.Heads.{int8, number32, number64, int16, int32, int64, double, uuid, truth, binary, text, counted, listed, items, mapped, pairs, itemsHead, pairsHead, fieldId, field, named, versioned, message}
 use Rattle.heads.specs.Answers.{place}
 use Rattle.input.specs.State as input
 use Rattle.input.specs.State.{sound, gate, fresh}
@@ -102,5 +102,5 @@ Samples =
     × (read (readOf (0x05 ∷ 0x02 ∷ []) T.Struct as-bytes start) ≡ halted END)
 
 pub samples : Samples
-unfolding Samples lists run writeOf writeAll writePairs writeFields writeWhole typeOf writes leaves settled orElse unsound inTurn begun inRange defaults fewest eight wroteAt putAt fieldCall boolCall fieldWrong countWrong lengthWrong textWrong beginWrong endWrong shortDelta fieldBytes itemsBytes pairsBytes stringBytes messageBytes typeCode truthCode messageCode utf8 past decode fresh sound gate calls element bools begins ends readBool readI8 readI16 readI32 readI64 readDouble readUuid readBytes readString readList readSet readMap readField readMessage structBegin structEnd bytesPart stringPart uuidPart namePart readAt done refuse andThen provided byte some int8 number32 number64 int16 int32 int64 double uuid truth binary text counted listed items mapped pairs fieldId field named versioned message typeByNumber elementType fieldType messageByNumber readAll readPairs readFields holders readLevels readOf readWhole
+unfolding Samples lists run writeOf writeAll writePairs writeFields writeWhole typeOf writes leaves settled orElse unsound inTurn begun inRange defaults fewest eight wroteAt putAt fieldCall boolCall fieldWrong countWrong lengthWrong textWrong beginWrong endWrong shortDelta fieldBytes itemsBytes pairsBytes stringBytes messageBytes typeCode truthCode messageCode utf8 past decode fresh sound gate calls element bools begins ends readBool readI8 readI16 readI32 readI64 readDouble readUuid readBytes readString readList readSet readMap readField readMessage structBegin structEnd bytesPart stringPart uuidPart namePart readAt done refuse andThen provided byte some int8 number32 number64 int16 int32 int64 double uuid truth binary text counted listed items mapped pairs ahead backed itemsHead pairsHead fieldId field named versioned message typeByNumber elementType fieldType messageByNumber readAll readPairs readFields holders readLevels readOf readWhole
 samples = (refl, refl, refl, refl, refl, refl, refl, refl, refl, refl, refl)

@@ -31,9 +31,9 @@ Table =
     × reading.T6
     × writing.T7
     × reading.T8
-    × writing.T9
+    × (reading.T9 × writing.T9)
     × reading.T10
-    × writing.T11
+    × (reading.T11 × writing.T11)
     × (reading.T12 × writing.T12)
     × (T13 × picking.T13)
 
@@ -52,9 +52,9 @@ table =
       r .3,
       w .2,
       r .4,
-      w .3,
-      r .5,
-      w .4,
-      (r .6, w .5),
+      (r .5, w .3),
+      r .6,
+      (r .7, w .4),
+      (r .8, w .5),
       ((refl, refl), p .0),
     )

@@ -26,7 +26,7 @@ use Rattle.input.specs.declared.Awaited.the-variants as W
 use Rattle.input.specs.declared.ReadDone.{ReadDone}
 use Rattle.input.proofs.Refusals.{Shown, shown}
 use Rattle.input.proofs.Gate.{Gated, bad, turn, through, gated}
-use Rattle.input.proofs.Laws.{CallLaws, not-true}
+use Rattle.input.proofs.Laws.{any, CallLaws, not-true}
 use Rattle.skip.specs.Walk.{Entry, fields}
 use Rattle.skip.specs.Value.{valueOf}
 use Rattle.skip.specs.Skip.{skipOf, over, roomOf, awaited, skips, skipCall}
@@ -93,12 +93,12 @@ module _ (s : List ℕ) (st : State) where
         go (through f w g) = by-depth _ refl g f w
 
 -- a call that does as another keeps the same laws
-module _ {R : Type 0} (c d : List ℕ → State → R) (number : R → ℕ) (state : R → State) (late : State → Bool) (same : (s : List ℕ) (st : State) → c s st ≡ d s st) (l : CallLaws d number state late) where
-  carried : CallLaws c number state late
+module _ {R : Type 0} (c d : List ℕ → State → R) (number : R → ℕ) (state : R → State) (late : State → Bool) (same : (s : List ℕ) (st : State) → c s st ≡ d s st) (l : CallLaws any d number state late) where
+  carried : CallLaws any c number state late
   carried =
       record {
         kept = λ s st h. ap state (same s st) ∙ l .kept s st (λ z. h (ap number (same s st) ∙ z));
-        behind = λ s t st h q. same t st ∙ l .behind s t st (sym (ap number (same s st)) ∙ h) (rw (same s st) at q) ∙ sym (same s st);
+        behind = λ s t st h q u. same t st ∙ l .behind s t st (sym (ap number (same s st)) ∙ h) (rw (same s st) at q) u ∙ sym (same s st);
         onward = λ s st h. rw (same s st) (l .onward s st (sym (ap number (same s st)) ∙ h));
         inside = λ s st h. rw (same s st) (l .inside s st (sym (ap number (same s st)) ∙ h));
         still-sound = λ s st h. rw (same s st) (l .still-sound s st h);
@@ -182,11 +182,11 @@ module _ (why : State → ℕ) (fl : (st : State) → Shown (why st)) where
         go (early f w e) = num OUT-OF-TURN e
         go (plain f w e) = not-true w y
 
-  flat-laws : CallLaws flatly (λ r. numberDone (r .answer)) (λ r. r .state) (late T.Struct)
+  flat-laws : CallLaws any flatly (λ r. numberDone (r .answer)) (λ r. r .state) (late T.Struct)
   flat-laws =
       record {
         kept = λ s st h. state-same s st;
-        behind = λ s t st h q. never s st h;
+        behind = λ s t st h q u. never s st h;
         onward = λ s st h. never s st h;
         inside = λ s st h. never s st h;
         still-sound = λ s st h. ap (sound (length s)) (state-same s st) ∙ h;
@@ -225,10 +225,10 @@ module _ (ids : List ℤ) (kinds : List ℕ) (n : ℕ) where
       go true false = refl
       go false c = refl
 
-  pub pick-laws : CallLaws (pickCall ids kinds n) (λ r. numberDone (r .answer)) (λ r. r .state) (late T.Struct)
+  pub pick-laws : CallLaws any (pickCall ids kinds n) (λ r. numberDone (r .answer)) (λ r. r .state) (late T.Struct)
   pick-laws = go (listed ids kinds) refl (leb (3 * length ids) n) refl
     where
-      go : (a : Bool) → listed ids kinds ≡ a → (b : Bool) → leb (3 * length ids) n ≡ b → CallLaws (pickCall ids kinds n) (λ r. numberDone (r .answer)) (λ r. r .state) (late T.Struct)
+      go : (a : Bool) → listed ids kinds ≡ a → (b : Bool) → leb (3 * length ids) n ≡ b → CallLaws any (pickCall ids kinds n) (λ r. numberDone (r .answer)) (λ r. r .state) (late T.Struct)
       go true l true h = carried _ (λ s st. skipCall s st T.Struct) _ _ _ (λ s st. as-skip-call s st ids kinds n l h) (skip-laws T.Struct)
       go true l false h = carried _ _ _ _ _ (roomless l h) (flat-laws shortOf short-flat)
       go false l b h =

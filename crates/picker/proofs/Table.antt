@@ -8,9 +8,10 @@ use Rattle.types.specs.Refusals.{END, DEPTH, NO-ROOM, BAD-LIST}
 use Rattle.types.specs.Codes.{typeCode, typeByNumber, elementType, fieldType}
 use Rattle.types.specs.Limits.{inRange, defaults}
 use Rattle.types.specs.Value.{typeOf}
-use Rattle.heads.specs.Reader.{done, refuse, andThen, provided, byte, some, readAt}
-use Rattle.heads.specs.Heads.{int8, number32, number64, int16, int32, int64, double, uuid, truth, binary, counted, listed, items, mapped, pairs, fieldId, field}
+use Rattle.heads.specs.Reader.{done, refuse, andThen, provided, byte, some, readAt, ahead, backed}
+use Rattle.heads.specs.Heads.{int8, number32, number64, int16, int32, int64, double, uuid, truth, binary, counted, listed, items, mapped, pairs, itemsHead, pairsHead, fieldId, field}
 use Rattle.heads.specs.Answers.{place}
+use Rattle.heads.proofs.Samples.{structFrame}
 use Rattle.input.specs.State.{State, fresh, sound, gate, movedTo}
 use Rattle.input.specs.Outcome.{declines}
 use Rattle.input.specs.Answers.{asDone}
@@ -55,11 +56,15 @@ Samples =
     -- refused, the rows are as they were: the input ends; too few numbers lent; an id twice; the type Stop; a type that has no number
     × (picking (pos 3 ∷ []) (5 ∷ []) (0x11 ∷ 0x25 ∷ 0x01 ∷ []) (9 ∷ 9 ∷ 9 ∷ []) ≡ 9 ∷ 9 ∷ 9 ∷ [])
     × (pickCall (pos 3 ∷ []) (5 ∷ []) 3 (0x11 ∷ 0x25 ∷ 0x01 ∷ []) start ≡ asDone (declines END start))
+    -- "two thousand million doubles in a 40-byte frame", as the list that is wanted and as one that is not
+    × (picking (pos 1 ∷ []) (9 ∷ []) structFrame (9 ∷ 9 ∷ 9 ∷ []) ≡ 9 ∷ 9 ∷ 9 ∷ [])
+    × (pickCall (pos 1 ∷ []) (9 ∷ []) 3 structFrame start ≡ asDone (declines END start))
+    × (pickCall (pos 2 ∷ []) (5 ∷ []) 3 structFrame start ≡ asDone (declines END start))
     × (pickCall (pos 3 ∷ []) (5 ∷ []) 2 two start ≡ asDone (declines NO-ROOM start))
     × (pickCall (pos 3 ∷ pos 3 ∷ []) (5 ∷ 5 ∷ []) 6 two start ≡ asDone (declines BAD-LIST start))
     × (pickCall (pos 3 ∷ []) (0 ∷ []) 3 two start ≡ asDone (declines BAD-LIST start))
     × (pickCall (pos 3 ∷ []) (2 ∷ []) 3 two start ≡ asDone (declines BAD-LIST start))
 
 pub rows : T13 × Samples
-unfolding Samples fresh defaults inRange sound gate pickedRows pickCall picks onStruct ownFrom rowOf lastOf occurs answer rowsOf wanted.sameId wanted.among wanted.distinct wanted.wantable wanted.wantables wanted.listed typeOf typeCode typeByNumber elementType fieldType readAt valueOf fields walk sizing many manyPairs done refuse andThen provided byte some int8 number32 number64 int16 int32 int64 double uuid truth binary counted listed items mapped pairs fieldId field
-rows = ((refl, refl, refl, refl), (refl, refl, refl, refl, refl, refl, refl, refl))
+unfolding Samples fresh defaults inRange sound gate pickedRows pickCall picks onStruct ownFrom rowOf lastOf occurs answer rowsOf wanted.sameId wanted.among wanted.distinct wanted.wantable wanted.wantables wanted.listed typeOf typeCode typeByNumber elementType fieldType readAt valueOf fields walk sizing many manyPairs done refuse andThen provided byte some int8 number32 number64 int16 int32 int64 double uuid truth binary counted listed items mapped pairs ahead backed itemsHead pairsHead fieldId field
+rows = ((refl, refl, refl, refl), (refl, refl, refl, refl, refl, refl, refl, refl, refl, refl, refl))

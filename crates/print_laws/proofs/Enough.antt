@@ -21,10 +21,11 @@ use Rattle.types.specs.Value.{Tree, Trees, no-trees, tree, Pairs, no-pairs, Fie
 use Rattle.numbers.specs.Varint.{Found, got, refused, placed}
 use Rattle.heads.specs.Reader.{Reader, done, refuse, readAt}
 use Rattle.heads.specs.Heads as heads
-use Rattle.heads.specs.Heads.{int8, int16, int32, int64, double, uuid, truth, binary, items, pairs, Field}
+use Rattle.heads.specs.Heads.{int8, int16, int32, int64, double, uuid, truth, binary, itemsHead, pairsHead, Field}
 use Rattle.heads.proofs.Lawful.{Lawful, Takes, not-both}
 use Rattle.heads.proofs.Steps.{found-at}
-use Rattle.heads.proofs.Readers.{int8-lawful, int8-takes, int16-lawful, int16-takes, int32-lawful, int32-takes, int64-lawful, int64-takes, double-lawful, double-takes, uuid-lawful, uuid-takes, truth-lawful, truth-takes, binary-lawful, binary-takes, items-lawful, items-takes, pairs-lawful, pairs-takes, field-lawful, field-takes, message-lawful, message-takes}
+use Rattle.heads.proofs.Ahead.{Fair, lawful-fair, itemsHead-fair, itemsHead-takes, pairsHead-fair, pairsHead-takes}
+use Rattle.heads.proofs.Readers.{int8-lawful, int8-takes, int16-lawful, int16-takes, int32-lawful, int32-takes, int64-lawful, int64-takes, double-lawful, double-takes, uuid-lawful, uuid-takes, truth-lawful, truth-takes, binary-lawful, binary-takes, field-lawful, field-takes, message-lawful, message-takes}
 use Rattle.skip.specs.Value.{startable}
 use Rattle.scalars.specs.Scalars.{scalarOf, bitsOf}
 use Rattle.scalars.specs.declared.Scalar.{Scalar}
@@ -203,7 +204,7 @@ then-thrifty {A} {B} t k s c h i = record { cost = λ bs. go bs (t bs .found) (h
     go bs (refused why) p = p
 
 -- a header pays for what is owed behind it
-head-thrifty : {A B : Type 0} (p : Reader A) (k : A → Teller B) (owed : A → ℕ) (s c : ℕ) → Lawful p → ((bs : List ℕ) (a : A) (n : ℕ) → p bs ≡ got a n → owed a ≤ 57 * n) → ((a : A) → Thrifty (k a) s (owed a) c) → Thrifty (thenTell (quiet p) k) s 0 c
+head-thrifty : {A B : Type 0} (p : Reader A) (k : A → Teller B) (owed : A → ℕ) (s c : ℕ) → Fair p → ((bs : List ℕ) (a : A) (n : ℕ) → p bs ≡ got a n → owed a ≤ 57 * n) → ((a : A) → Thrifty (k a) s (owed a) c) → Thrifty (thenTell (quiet p) k) s 0 c
 unfolding thenTell quiet
 head-thrifty {A} {B} p k owed s c l h i = record { cost = λ bs. go bs (p bs) refl }
   where
@@ -258,13 +259,13 @@ paid p t bs a n e = omega (arith, t bs a n e)
 scalar-thrifty : {A : Type 0} (p : Reader A) (v : A → Scalar) (g : A → Tree) (c : ℕ) → Lawful p → Takes p → Thrifty (voiced p (λ a. row.scalar (v a)) g) 0 0 c
 unfolding voiced
 scalar-thrifty p v g c l t =
-    head-thrifty p _ (λ a. 57) 0 c l (paid p t)
+    head-thrifty p _ (λ a. 57) 0 c (lawful-fair p l) (paid p t)
     (λ a. weaker _ 0 22 c 57 c (omega arith) (omega arith) (aloud-thrifty (row.scalar (v a)) _ 0 0 c 22 (scalar-line (v a)) (done-thrifty (g a) c)))
 
 part-thrifty : (p : Reader (List ℕ)) (g : List ℕ → Tree) (c : ℕ) → Lawful p → ((bs cs : List ℕ) (n : ℕ) → p bs ≡ got cs n → 2 + 2 * length cs ≤ 57 * n) → Thrifty (voiced p row.part g) 0 0 c
 unfolding voiced
 part-thrifty p g c l h =
-    head-thrifty p _ (λ cs. 2 + 2 * length cs) 0 c l h
+    head-thrifty p _ (λ cs. 2 + 2 * length cs) 0 c (lawful-fair p l) h
     (λ cs. weaker _ 0 (2 + 2 * length cs + 0) c (2 + 2 * length cs) c (omega arith) (omega arith) (aloud-thrifty (row.part cs) _ 0 0 c (2 + 2 * length cs) (omega (arith, part-line cs)) (done-thrifty (g cs) c)))
 
 binary-paid : (lim : TConfiguration) (bs cs : List ℕ) (n : ℕ) → binary lim bs ≡ got cs n → 2 + 2 * length cs ≤ 57 * n
@@ -298,7 +299,7 @@ module _ (inner : TType → Teller Tree) (c : ℕ) (h : (t : TType) → Thrifty 
   unfolding walkTold
   walk-thrifty zero last = refuse-thrifty Fields END 7 c
   walk-thrifty (suc k) last =
-      head-thrifty (heads.field last) _ (λ x. 57) 7 c (field-lawful last) (paid (heads.field last) (field-takes last)) (λ x. behind-thrifty (walkTold inner k) (walk-thrifty k) x)
+      head-thrifty (heads.field last) _ (λ x. 57) 7 c (lawful-fair _ (field-lawful last)) (paid (heads.field last) (field-takes last)) (λ x. behind-thrifty (walkTold inner k) (walk-thrifty k) x)
 
   fields-thrifty : (last : ℤ) → Thrifty (fieldsTold inner last) 7 0 c
   unfolding fieldsTold
@@ -315,7 +316,7 @@ module _ (inner : TType → Teller Tree) (c : ℕ) (h : (t : TType) → Thrifty 
   items-thrifty : {B : Type 0} (lim : TConfiguration) (whole : TType) (g : TType → Trees → B) → Thrifty (itemsTold lim inner whole g) 0 0 c
   unfolding itemsTold
   items-thrifty lim whole g =
-      head-thrifty (items lim) _ (λ x. 57) 0 c (items-lawful lim) (paid (items lim) (items-takes lim))
+      head-thrifty (itemsHead lim) _ (λ x. 57) 0 c (itemsHead-fair lim) (paid (itemsHead lim) (itemsHead-takes lim))
       (λ x. weaker _ 0 35 c 57 c (omega arith) (omega arith)
       (aloud-thrifty (row.items whole (x .0) (x .1)) _ 0 0 c 35 (items-line whole (x .0) (x .1))
       (provided-thrifty _ BAD-TYPE _ 0 c (making-thrifty _ (g (x .0)) 0 c (row-thrifty (inner (x .0)) no-trees tree c (h (x .0)) (x .1))))))
@@ -323,7 +324,7 @@ module _ (inner : TType → Teller Tree) (c : ℕ) (h : (t : TType) → Thrifty 
   map-thrifty : (lim : TConfiguration) → Thrifty (mapTold lim inner) 0 0 c
   unfolding mapTold
   map-thrifty lim =
-      head-thrifty (pairs lim) _ (λ x. 57) 0 c (pairs-lawful lim) (paid (pairs lim) (pairs-takes lim))
+      head-thrifty (pairsHead lim) _ (λ x. 57) 0 c (pairsHead-fair lim) (paid (pairsHead lim) (pairsHead-takes lim))
       (λ x. weaker _ 0 39 c 57 c (omega arith) (omega arith)
       (aloud-thrifty (row.map (x .0) (x .1) (x .2)) _ 0 0 c 39 (map-line (x .0) (x .1) (x .2))
       (provided-thrifty _ BAD-TYPE _ 0 c (provided-thrifty _ BAD-TYPE _ 0 c
@@ -381,7 +382,7 @@ message-paid lim bs m n e =
 message-thrifty : (lim : TConfiguration) (room : ℕ) → Thrifty (messageTold lim room) 0 0 (levels room)
 unfolding messageTold
 message-thrifty lim room =
-    head-thrifty (heads.message lim) _ (λ m. 53 + 2 * length (m .2)) 0 (levels room) (message-lawful lim) (message-paid lim)
+    head-thrifty (heads.message lim) _ (λ m. 53 + 2 * length (m .2)) 0 (levels room) (lawful-fair _ (message-lawful lim)) (message-paid lim)
     (λ m. weaker _ 0 (53 + 2 * length (m .2) + 0) (levels room) (53 + 2 * length (m .2)) (levels room) (omega arith) (omega arith)
     (aloud-thrifty (row.message (m .0) (m .1) (m .2)) _ 0 0 (levels room) (53 + 2 * length (m .2)) (message-line m) (value-thrifty lim room T.Struct)))
 

@@ -15,7 +15,7 @@ use Rattle.types.specs.Value.{Tree, Trees, no-trees, tree, Pairs, no-pairs, pai
 use Rattle.numbers.specs.Varint.{Found, got, refused, placed}
 use Rattle.heads.specs.Reader.{Reader, done, refuse}
 use Rattle.heads.specs.Heads as heads
-use Rattle.heads.specs.Heads.{items, pairs, Field}
+use Rattle.heads.specs.Heads.{itemsHead, pairsHead, Field}
 use Rattle.heads.proofs.Lawful.{not-both}
 use Rattle.heads.proofs.Steps.{found-at}
 use Rattle.skip.specs.Value.{startable}
@@ -187,7 +187,7 @@ module _ (inner : TType → Teller Tree) (h : (t : TType) → Tale (inner t) ite
   items-tale : (lim : TConfiguration) (whole : TType) (g : TType → Trees → Tree) → ((t : TType) (ts : Trees) → itemsOf (g t ts) ≡ row.items whole t (size ts) ∷ itemsAll ts) → ((t : TType) (ts : Trees) → typeOf (g t ts) ≡ whole) → Tale (itemsTold lim inner whole g) itemsOf (λ v. typeOf v ≡ whole)
   unfolding itemsTold quiet aloud
   items-tale lim whole g j k bs v n e =
-      let w = twice (quiet (items lim)) (λ x. aloud (row.items whole (x .0) (x .1)) (providedT (startable (x .0) (x .1)) BAD-TYPE (making (manyTold (inner (x .0)) (x .1)) (g (x .0))))) bs v n e in
+      let w = twice (quiet (itemsHead lim)) (λ x. aloud (row.items whole (x .0) (x .1)) (providedT (startable (x .0) (x .1)) BAD-TYPE (making (manyTold (inner (x .0)) (x .1)) (g (x .0))))) bs v n e in
       let x = w .one in
       let d = drop (w .used) bs in
       let o = open-door (startable (x .0) (x .1)) BAD-TYPE (making (manyTold (inner (x .0)) (x .1)) (g (x .0))) d v (w .more) (w .second) in
@@ -205,7 +205,7 @@ module _ (inner : TType → Teller Tree) (h : (t : TType) → Tale (inner t) ite
   map-tale : (lim : TConfiguration) → Tale (mapTold lim inner) itemsOf (λ v. typeOf v ≡ T.Map)
   unfolding mapTold quiet aloud itemsOf typeOf
   map-tale lim bs v n e =
-      let w = twice (quiet (pairs lim)) (λ x. aloud (row.map (x .0) (x .1) (x .2)) (providedT (startable (x .0) (x .2)) BAD-TYPE (providedT (startable (x .1) (x .2)) BAD-TYPE (making (pairsTold (inner (x .0)) (inner (x .1)) (x .2)) (val.map (x .0) (x .1)))))) bs v n e in
+      let w = twice (quiet (pairsHead lim)) (λ x. aloud (row.map (x .0) (x .1) (x .2)) (providedT (startable (x .0) (x .2)) BAD-TYPE (providedT (startable (x .1) (x .2)) BAD-TYPE (making (pairsTold (inner (x .0)) (inner (x .1)) (x .2)) (val.map (x .0) (x .1)))))) bs v n e in
       let x = w .one in
       let d = drop (w .used) bs in
       let o = open-door (startable (x .0) (x .2)) BAD-TYPE (providedT (startable (x .1) (x .2)) BAD-TYPE (making (pairsTold (inner (x .0)) (inner (x .1)) (x .2)) (val.map (x .0) (x .1)))) d v (w .more) (w .second) in

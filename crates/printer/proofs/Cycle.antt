@@ -18,8 +18,8 @@ use Rattle.types.specs.Value.{Tree, Trees, tree, Pairs, pair, Fields}
 use Rattle.numbers.specs.Varint.{Found, got, refused, placed}
 use Rattle.heads.specs.Reader.{Reader, done, readAt}
 use Rattle.heads.specs.Heads as heads
-use Rattle.heads.specs.Heads.{items, pairs, Field}
-use Rattle.heads.specs.Answers.{place, toList, itemsAt, toMap, pairsAt, toField, fieldAt}
+use Rattle.heads.specs.Heads.{itemsHead, pairsHead, Field}
+use Rattle.heads.specs.Answers.{place, toList, itemsHeadAt, toMap, pairsHeadAt, toField, fieldAt}
 use Rattle.heads.specs.declared.ListHead.{ListHead}
 use Rattle.heads.specs.declared.ListHead.the-variants as L
 use Rattle.heads.specs.declared.MapHead.{MapHead}
@@ -74,24 +74,24 @@ as-list : (x : Found (TType × ℕ)) → of-list (toList x) ≡ x
 as-list (got a e) = refl
 as-list (refused why) = refl
 
-module _ (s : List ℕ) (lim : TConfiguration) (at : ℕ) (h : ListHead) (e : h ≡ itemsAt s lim at) where
-  list-read : (q : ListHead) → h ≡ q → readAt (items lim) s at ≡ of-list q
-  unfolding itemsAt
-  list-read q g = sym (as-list (readAt (items lim) s at)) ∙ ap of-list (sym e ∙ g)
+module _ (s : List ℕ) (lim : TConfiguration) (at : ℕ) (h : ListHead) (e : h ≡ itemsHeadAt s lim at) where
+  list-read : (q : ListHead) → h ≡ q → readAt (itemsHead lim) s at ≡ of-list q
+  unfolding itemsHeadAt
+  list-read q g = sym (as-list (readAt (itemsHead lim) s at)) ∙ ap of-list (sym e ∙ g)
 
 -- print_items, whatever is made of the elements
 module _ {B : Type 0} (s : List ℕ) (lim : TConfiguration) (inner : TType → Teller Tree) (whole : TType) (made : TType → Trees → B) (at : ℕ) where
-  behind-items : (p : Pen) (a : TType × ℕ) (e : ℕ) → readAt (items lim) s at ≡ got a e → prints (itemsTold lim inner whole made) s at p ≡ prints (providedT (startable (a .0) (a .1)) BAD-TYPE (making (manyTold (inner (a .0)) (a .1)) (made (a .0)))) s e (inked (line (row.items whole (a .0) (a .1))) p)
+  behind-items : (p : Pen) (a : TType × ℕ) (e : ℕ) → readAt (itemsHead lim) s at ≡ got a e → prints (itemsTold lim inner whole made) s at p ≡ prints (providedT (startable (a .0) (a .1)) BAD-TYPE (making (manyTold (inner (a .0)) (a .1)) (made (a .0)))) s e (inked (line (row.items whole (a .0) (a .1))) p)
   unfolding itemsTold
   behind-items p a e f =
-      prints-step (quiet (items lim)) _ s at p a e p (quiet-tells (items lim) s at p (got a e) f)
+      prints-step (quiet (itemsHead lim)) _ s at p a e p (quiet-tells (itemsHead lim) s at p (got a e) f)
       ∙ prints-aloud _ _ s e p _ refl
 
-  items-lost : (p : Pen) (why : ℕ) → readAt (items lim) s at ≡ refused why → prints (itemsTold lim inner whole made) s at p ≡ (Stopped why (p .1), p .0)
+  items-lost : (p : Pen) (why : ℕ) → readAt (itemsHead lim) s at ≡ refused why → prints (itemsTold lim inner whole made) s at p ≡ (Stopped why (p .1), p .0)
   unfolding itemsTold
-  items-lost p why f = prints-stop (quiet (items lim)) _ s at p why p (quiet-tells (items lim) s at p (refused why) f)
+  items-lost p why f = prints-stop (quiet (itemsHead lim)) _ s at p why p (quiet-tells (itemsHead lim) s at p (refused why) f)
 
-  module _ (out : List ℕ) (to : ℕ) (h : ListHead) (e : h ≡ itemsAt s lim at) where
+  module _ (out : List ℕ) (to : ℕ) (h : ListHead) (e : h ≡ itemsHeadAt s lim at) where
     pub items-refused : (why : ℕ) → h ≡ L.Refused why → (Stopped why to, out) ≡ prints (itemsTold lim inner whole made) s at (out, to)
     items-refused why g = sym (items-lost (out, to) why (list-read s lim at h e (L.Refused why) g))
 
@@ -116,9 +116,9 @@ elements-same true t g h s e p =
 elements-same false t g h s e p = prints-no false BAD-TYPE _ s e p refl ∙ sym (prints-no false BAD-TYPE _ s e p refl)
 
 items-same : {B C : Type 0} (s : List ℕ) (lim : TConfiguration) (inner : TType → Teller Tree) (whole : TType) (g : TType → Trees → B) (h : TType → Trees → C) (at : ℕ) (p : Pen) → prints (itemsTold lim inner whole g) s at p ≡ prints (itemsTold lim inner whole h) s at p
-items-same s lim inner whole g h at p = go (readAt (items lim) s at) refl
+items-same s lim inner whole g h at p = go (readAt (itemsHead lim) s at) refl
   where
-    go : (x : Found (TType × ℕ)) → readAt (items lim) s at ≡ x → prints (itemsTold lim inner whole g) s at p ≡ prints (itemsTold lim inner whole h) s at p
+    go : (x : Found (TType × ℕ)) → readAt (itemsHead lim) s at ≡ x → prints (itemsTold lim inner whole g) s at p ≡ prints (itemsTold lim inner whole h) s at p
     go (got a e) f =
         behind-items s lim inner whole g at p a e f
         ∙ elements-same (startable (a .0) (a .1)) (manyTold (inner (a .0)) (a .1)) (g (a .0)) (h (a .0)) s e _
@@ -205,20 +205,20 @@ as-map : (x : Found (TType × TType × ℕ)) → of-map (toMap x) ≡ x
 as-map (got a e) = refl
 as-map (refused why) = refl
 
-module _ (s : List ℕ) (lim : TConfiguration) (inner : TType → Teller Tree) (at : ℕ) (out : List ℕ) (to : ℕ) (h : MapHead) (e : h ≡ pairsAt s lim at) where
-  map-read : (q : MapHead) → h ≡ q → readAt (pairs lim) s at ≡ of-map q
-  unfolding pairsAt
-  map-read q g = sym (as-map (readAt (pairs lim) s at)) ∙ ap of-map (sym e ∙ g)
+module _ (s : List ℕ) (lim : TConfiguration) (inner : TType → Teller Tree) (at : ℕ) (out : List ℕ) (to : ℕ) (h : MapHead) (e : h ≡ pairsHeadAt s lim at) where
+  map-read : (q : MapHead) → h ≡ q → readAt (pairsHead lim) s at ≡ of-map q
+  unfolding pairsHeadAt
+  map-read q g = sym (as-map (readAt (pairsHead lim) s at)) ∙ ap of-map (sym e ∙ g)
 
   pub map-refused : (why : ℕ) → h ≡ M.Refused why → (Stopped why to, out) ≡ prints (mapTold lim inner) s at (out, to)
   unfolding mapTold
-  map-refused why g = sym (prints-stop (quiet (pairs lim)) _ s at (out, to) why (out, to) (quiet-tells (pairs lim) s at (out, to) (refused why) (map-read (M.Refused why) g)))
+  map-refused why g = sym (prints-stop (quiet (pairsHead lim)) _ s at (out, to) why (out, to) (quiet-tells (pairsHead lim) s at (out, to) (refused why) (map-read (M.Refused why) g)))
 
   module _ (k v : TType) (n : ℕ) (p : Place) (g : h ≡ M.Got k v n p) (o : List ℕ) (q : ℕ) (i : (o, q) ≡ inked (line (row.map k v n)) (out, to)) (b : Bool) (f : b ≡ startable k n) where
     in-map : prints (mapTold lim inner) s at (out, to) ≡ prints (providedT (startable k n) BAD-TYPE (providedT (startable v n) BAD-TYPE (making (pairsTold (inner k) (inner v) n) (val.map k v)))) s (p .0) (o, q)
     unfolding mapTold
     in-map =
-        prints-step (quiet (pairs lim)) _ s at (out, to) (k, v, n) (p .0) (out, to) (quiet-tells (pairs lim) s at (out, to) (got (k, v, n) (p .0)) (map-read (M.Got k v n p) g))
+        prints-step (quiet (pairsHead lim)) _ s at (out, to) (k, v, n) (p .0) (out, to) (quiet-tells (pairsHead lim) s at (out, to) (got (k, v, n) (p .0)) (map-read (M.Got k v n p) g))
         ∙ prints-aloud _ _ s (p .0) (out, to) (o, q) i
 
     pub map-keyless : b ≡ false → (Stopped BAD-TYPE q, o) ≡ prints (mapTold lim inner) s at (out, to)

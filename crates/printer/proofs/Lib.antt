@@ -4,3 +4,4 @@ pub mod Walks
 pub mod Cycle
 pub mod Same
 pub mod Whole
+pub mod Samples

@@ -16,7 +16,7 @@ use Rattle.types.specs.Value.{Tree, Trees, no-trees, tree, Pairs, no-pairs, pai
 use Rattle.numbers.specs.Varint.{Found, got, refused, placed}
 use Rattle.heads.specs.Reader.{Reader, done, refuse, onward, andThen, provided}
 use Rattle.heads.specs.Heads as heads
-use Rattle.heads.specs.Heads.{items, pairs, Field}
+use Rattle.heads.specs.Heads.{itemsHead, pairsHead, Field}
 use Rattle.heads.proofs.Lawful.{Lawful, then-lawful}
 use Rattle.heads.proofs.Readers.{message-lawful}
 use Rattle.skip.specs.Walk.{Entry, withSize, sizing, behind, walk, fields}
@@ -165,16 +165,16 @@ module _ (inner : TType → Teller Tree) (f : TType → Reader Tree) (h : (t : T
   fields-finds last bs = walk-finds (length bs) last bs
 
   -- the four that hold others
-  items-finds : (lim : TConfiguration) (whole : TType) (g : TType → Trees → Tree) → Finds (itemsTold lim inner whole g) (andThen (items lim) (λ x. provided (startable (x .0) (x .1)) BAD-TYPE (andThen (many (f (x .0)) (x .1)) (λ ts. done (g (x .0) ts)))))
+  items-finds : (lim : TConfiguration) (whole : TType) (g : TType → Trees → Tree) → Finds (itemsTold lim inner whole g) (andThen (itemsHead lim) (λ x. provided (startable (x .0) (x .1)) BAD-TYPE (andThen (many (f (x .0)) (x .1)) (λ ts. done (g (x .0) ts)))))
   unfolding itemsTold
   items-finds lim whole g =
-      then-finds (quiet (items lim)) (items lim) _ _ (quiet-finds (items lim))
+      then-finds (quiet (itemsHead lim)) (itemsHead lim) _ _ (quiet-finds (itemsHead lim))
       (λ x. aloud-finds _ _ _ (provided-finds _ BAD-TYPE _ _ (making-finds _ _ (g (x .0)) (many-finds (inner (x .0)) (f (x .0)) (h (x .0)) (x .1)))))
 
   map-finds : (lim : TConfiguration) → Finds (mapTold lim inner) (sk.roomy lim f .map)
   unfolding mapTold
   map-finds lim =
-      then-finds (quiet (pairs lim)) (pairs lim) _ _ (quiet-finds (pairs lim))
+      then-finds (quiet (pairsHead lim)) (pairsHead lim) _ _ (quiet-finds (pairsHead lim))
       (λ x. aloud-finds _ _ _ (provided-finds _ BAD-TYPE _ _ (provided-finds _ BAD-TYPE _ _
       (making-finds _ _ (val.map (x .0) (x .1)) (pairs-finds (inner (x .0)) (inner (x .1)) (f (x .0)) (f (x .1)) (h (x .0)) (h (x .1)) (x .2))))))
 

@@ -14,7 +14,7 @@ use Rattle.types.specs.Value as val
 use Rattle.types.specs.Value.{Tree, Trees, no-trees, tree, Pairs, no-pairs, pair, Fields, no-fields}
 use Rattle.heads.specs.Reader.{done, refuse}
 use Rattle.heads.specs.Heads as heads
-use Rattle.heads.specs.Heads.{int8, int16, int32, int64, double, uuid, truth, binary, items, pairs, Field}
+use Rattle.heads.specs.Heads.{int8, int16, int32, int64, double, uuid, truth, binary, itemsHead, pairsHead, Field}
 use Rattle.skip.specs.Value.{startable}
 use Rattle.scalars.specs.Scalars.{scalarOf}
 use Rattle.scalars.specs.declared.Scalar.the-variants as S
@@ -44,14 +44,14 @@ pairsTold t u n = rowTold (pairTold t u) no-pairs addPair n
 -- a list's or a set's header, which `whole` says, and then its elements
 unfoldable pub itemsTold : {B : Type 0} → TConfiguration → (TType → Teller Tree) → TType → (TType → Trees → B) → Teller B
 itemsTold lim inner whole g =
-    thenTell (quiet (items lim))
+    thenTell (quiet (itemsHead lim))
     (λ h. aloud (row.items whole (h .0) (h .1))
     (providedT (startable (h .0) (h .1)) BAD-TYPE (making (manyTold (inner (h .0)) (h .1)) (g (h .0)))))
 
 -- a map's
 unfoldable pub mapTold : TConfiguration → (TType → Teller Tree) → Teller Tree
 mapTold lim inner =
-    thenTell (quiet (pairs lim))
+    thenTell (quiet (pairsHead lim))
     (λ h. aloud (row.map (h .0) (h .1) (h .2))
     (providedT (startable (h .0) (h .2)) BAD-TYPE
     (providedT (startable (h .1) (h .2)) BAD-TYPE

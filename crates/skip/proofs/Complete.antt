@@ -3,7 +3,7 @@ use mathlib.Core.Path.{_≡_, refl, sym, ap, ap₂, subst, _∙_}
 use mathlib.Core.Bool.{Bool, true, false}
 use mathlib.Core.Logic.{_⊎_, inl, inr, ⊎-elim}
 use mathlib.Core.List.{List, [], _∷_, _++_, append-assoc}
-use Prim.Native.Nat.{ℕ, zero, suc, _+_, _-_, _≤_, _<_}
+use Prim.Native.Nat.{ℕ, zero, suc, _+_, _-_, _*_, _≤_, _<_}
 use native.Mathlib.Nat.{add-zero}
 use native.Mathlib.Numerals.{sub-one}
 use native.Mathlib.Omega.{arith}
@@ -21,12 +21,14 @@ use Rattle.types.specs.Value.{Tree, Trees, no-trees, tree, Pairs, no-pairs, pai
 use Rattle.types.proofs.Value.{no-stop}
 use Rattle.numbers.specs.Varint.{Found, got, refused, placed}
 use Rattle.heads.specs.Reader.{Reader, done, refuse, andThen, provided, Whole}
-use Rattle.heads.specs.Heads.{int8, int16, int32, int64, double, uuid, truth, binary, items, pairs, Field, stop, bool, value, field}
+use Rattle.heads.specs.Heads.{int8, int16, int32, int64, double, uuid, truth, binary, items, pairs, leastSize, itemsHead, pairsHead, Field, stop, bool, value, field}
 use Rattle.heads.specs.Spells.{Spells, SpellsAll, SpellsPairs, SpellsFields}
 use Rattle.heads.proofs.Lawful.{Lawful, then-got, whole-front}
+use Rattle.heads.proofs.Ahead.{items-head, pairs-head}
 use Rattle.heads.proofs.Readers.{int8-lawful, int16-lawful, int32-lawful, int64-lawful, double-lawful, uuid-lawful, truth-lawful, binary-lawful, items-lawful, pairs-lawful, field-lawful}
 use Rattle.skip.specs.Walk.{Entry, withSize, sizing, behind, fields}
 use Rattle.skip.specs.Value.{many, manyPairs, fieldsOf, startable, Boxes, roomy, shaped, valueOf}
+use Rattle.skip.proofs.Least.{all-least, pairs-least}
 use Rattle.skip.proofs.Walks.{fields-step}
 use Rattle.skip.specs.Leaves.{isLeaf}
 use Rattle.skip.proofs.Past.{pos-suc}
@@ -85,15 +87,21 @@ provided-read : {A : Type 0} (ok : Bool) (why : ℕ) (p : Reader A) (bs : List �
 unfolding provided
 provided-read ok why p bs x e f = rw e f
 
+-- bytes that stand behind a header are ahead of it, whatever follows
+still : (h b rest : List ℕ) (n : ℕ) → n ≤ length b → n ≤ length (drop (length h) (h ++ (b ++ rest)))
+still h b rest n l = rw (drop-append-seam h (b ++ rest), length-append b rest) (omega arith)
+
 -- a list or a set, from its elements
-items-read : (lim : TConfiguration) (inner : TType → Reader Tree) (g : TType → Trees → Tree) (t : TType) (ts : Trees) (h b rest : List ℕ) → Whole (items lim) (t, size ts) h → startable t (size ts) ≡ true → many (inner t) (size ts) (b ++ rest) ≡ got ts (length b) → andThen (items lim) (λ x. provided (startable (x .0) (x .1)) BAD-TYPE (andThen (many (inner (x .0)) (x .1)) (λ us. done (g (x .0) us)))) ((h ++ b) ++ rest) ≡ got (g t ts) (length (h ++ b))
-items-read lim inner g t ts h b rest w st e =
-    joined (items lim) _ (t, size ts) (g t ts) h b rest (whole-front (items lim) (items-lawful lim) h (t, size ts) w (b ++ rest))
+items-read : (lim : TConfiguration) (inner : TType → Reader Tree) (g : TType → Trees → Tree) (t : TType) (ts : Trees) (h b rest : List ℕ) → Whole (items lim) (t, size ts) h → startable t (size ts) ≡ true → size ts * leastSize t ≤ length b → many (inner t) (size ts) (b ++ rest) ≡ got ts (length b) → andThen (itemsHead lim) (λ x. provided (startable (x .0) (x .1)) BAD-TYPE (andThen (many (inner (x .0)) (x .1)) (λ us. done (g (x .0) us)))) ((h ++ b) ++ rest) ≡ got (g t ts) (length (h ++ b))
+items-read lim inner g t ts h b rest w st l e =
+    joined (itemsHead lim) _ (t, size ts) (g t ts) h b rest
+    (items-head lim (h ++ (b ++ rest)) t (size ts) (length h) (whole-front (items lim) (items-lawful lim) h (t, size ts) w (b ++ rest)) (still h b rest (size ts * leastSize t) l))
     (provided-read (startable t (size ts)) BAD-TYPE _ (b ++ rest) _ st (made (many (inner t) (size ts)) (g t) ts (b ++ rest) (length b) e))
 
-map-read : (lim : TConfiguration) (inner : TType → Reader Tree) (k v : TType) (ps : Pairs) (h b rest : List ℕ) → Whole (pairs lim) (k, v, sizeP ps) h → startable k (sizeP ps) ≡ true → startable v (sizeP ps) ≡ true → manyPairs (inner k) (inner v) (sizeP ps) (b ++ rest) ≡ got ps (length b) → roomy lim inner .map ((h ++ b) ++ rest) ≡ got (val.map k v ps) (length (h ++ b))
-map-read lim inner k v ps h b rest w sk sv e =
-    joined (pairs lim) _ (k, v, sizeP ps) (val.map k v ps) h b rest (whole-front (pairs lim) (pairs-lawful lim) h (k, v, sizeP ps) w (b ++ rest))
+map-read : (lim : TConfiguration) (inner : TType → Reader Tree) (k v : TType) (ps : Pairs) (h b rest : List ℕ) → Whole (pairs lim) (k, v, sizeP ps) h → startable k (sizeP ps) ≡ true → startable v (sizeP ps) ≡ true → sizeP ps * leastSize k + sizeP ps * leastSize v ≤ length b → manyPairs (inner k) (inner v) (sizeP ps) (b ++ rest) ≡ got ps (length b) → roomy lim inner .map ((h ++ b) ++ rest) ≡ got (val.map k v ps) (length (h ++ b))
+map-read lim inner k v ps h b rest w sk sv l e =
+    joined (pairsHead lim) _ (k, v, sizeP ps) (val.map k v ps) h b rest
+    (pairs-head lim (h ++ (b ++ rest)) k v (sizeP ps) (length h) (whole-front (pairs lim) (pairs-lawful lim) h (k, v, sizeP ps) w (b ++ rest)) (still h b rest (sizeP ps * leastSize k + sizeP ps * leastSize v) l))
     (provided-read (startable k (sizeP ps)) BAD-TYPE _ (b ++ rest) _ sk
     (provided-read (startable v (sizeP ps)) BAD-TYPE _ (b ++ rest) _ sv
     (made (manyPairs (inner k) (inner v) (sizeP ps)) (val.map k v) ps (b ++ rest) (length b) e)))
@@ -176,14 +184,14 @@ mutual
   complete (val.bytes cs) lim room ty bs s rest = at-leaf lim room ty T.String (bs ++ rest) _ (s .0) refl (leaf-read (binary lim) (binary-lawful lim) val.bytes cs bs rest (s .1))
   complete (val.list t ts) lim room ty bs s rest =
       entered lim room ty T.List bs (s .2 .0) (s .2 .1) rest _ (s .0) (s .1) (s .2 .4)
-      (items-read lim (valueOf lim (room - 1)) val.list t ts (s .2 .0) (s .2 .1) rest (s .2 .2) (all-start ts lim (room - 1) t (s .2 .1) (s .2 .3)) (complete-all ts lim (room - 1) t (s .2 .1) (s .2 .3) rest))
+      (items-read lim (valueOf lim (room - 1)) val.list t ts (s .2 .0) (s .2 .1) rest (s .2 .2) (all-start ts lim (room - 1) t (s .2 .1) (s .2 .3)) (all-least ts lim (room - 1) t (s .2 .1) (s .2 .3)) (complete-all ts lim (room - 1) t (s .2 .1) (s .2 .3) rest))
   complete (val.set t ts) lim room ty bs s rest =
       entered lim room ty T.Set bs (s .2 .0) (s .2 .1) rest _ (s .0) (s .1) (s .2 .4)
-      (items-read lim (valueOf lim (room - 1)) val.set t ts (s .2 .0) (s .2 .1) rest (s .2 .2) (all-start ts lim (room - 1) t (s .2 .1) (s .2 .3)) (complete-all ts lim (room - 1) t (s .2 .1) (s .2 .3) rest))
+      (items-read lim (valueOf lim (room - 1)) val.set t ts (s .2 .0) (s .2 .1) rest (s .2 .2) (all-start ts lim (room - 1) t (s .2 .1) (s .2 .3)) (all-least ts lim (room - 1) t (s .2 .1) (s .2 .3)) (complete-all ts lim (room - 1) t (s .2 .1) (s .2 .3) rest))
   complete (val.map k v ps) lim room ty bs s rest =
       let st = pairs-start ps lim (room - 1) k v (s .2 .1) (s .2 .3) in
       entered lim room ty T.Map bs (s .2 .0) (s .2 .1) rest _ (s .0) (s .1) (s .2 .4)
-      (map-read lim (valueOf lim (room - 1)) k v ps (s .2 .0) (s .2 .1) rest (s .2 .2) (st .0) (st .1) (complete-pairs ps lim (room - 1) k v (s .2 .1) (s .2 .3) rest))
+      (map-read lim (valueOf lim (room - 1)) k v ps (s .2 .0) (s .2 .1) rest (s .2 .2) (st .0) (st .1) (pairs-least ps lim (room - 1) k v (s .2 .1) (s .2 .3)) (complete-pairs ps lim (room - 1) k v (s .2 .1) (s .2 .3) rest))
   complete (val.struct fs) lim room ty bs s rest =
       entered-at lim room ty T.Struct (bs ++ rest) _ (s .0) (s .1)
       (struct-read lim (valueOf lim (room - 1)) fs (bs ++ rest) (length bs) (complete-fields fs lim (room - 1) (pos 0) bs (s .2) rest))

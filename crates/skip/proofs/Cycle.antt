@@ -21,8 +21,8 @@ use Rattle.types.specs.Value as val
 use Rattle.types.specs.Value.{Tree, Trees, Pairs}
 use Rattle.numbers.specs.Varint.{Found, got, refused, placed}
 use Rattle.heads.specs.Reader.{Reader, done, refuse, andThen, provided, readAt}
-use Rattle.heads.specs.Heads.{items, pairs, Field, stop, bool, value, field}
-use Rattle.heads.specs.Answers.{place, idOf, toList, itemsAt, toMap, pairsAt, toField, fieldAt}
+use Rattle.heads.specs.Heads.{itemsHead, pairsHead, Field, stop, bool, value, field}
+use Rattle.heads.specs.Answers.{place, idOf, toList, itemsHeadAt, toMap, pairsHeadAt, toField, fieldAt}
 use Rattle.heads.specs.declared.ListHead.{ListHead}
 use Rattle.heads.specs.declared.ListHead.the-variants as L
 use Rattle.heads.specs.declared.MapHead.{MapHead}
@@ -52,16 +52,16 @@ elements-same s lim room t n e false g h = past-not false BAD-TYPE _ s e refl �
 -- a set is passed over as a list is
 pub set-list : (s : List ℕ) (lim : TConfiguration) (room at : ℕ) → skipOf s lim (suc room) T.Set at ≡ skipOf s lim (suc room) T.List at
 unfolding skipOf valueOf
-set-list s lim room at = go (past (items lim) s at) refl
+set-list s lim room at = go (past (itemsHead lim) s at) refl
   where
-    go : (x : Skipped) → past (items lim) s at ≡ x → past (roomy lim (valueOf lim room) .set) s at ≡ past (roomy lim (valueOf lim room) .list) s at
+    go : (x : Skipped) → past (itemsHead lim) s at ≡ x → past (roomy lim (valueOf lim room) .set) s at ≡ past (roomy lim (valueOf lim room) .list) s at
     go (Done e) f =
-        let h = read-past (items lim) s at e f in
-        past-step (items lim) _ s at (h .0) (e .0) (h .1)
+        let h = read-past (itemsHead lim) s at e f in
+        past-step (itemsHead lim) _ s at (h .0) (e .0) (h .1)
         ∙ elements-same s lim room (h .0 .0) (h .0 .1) (e .0) (startable (h .0 .0) (h .0 .1)) (val.set (h .0 .0)) (val.list (h .0 .0))
-        ∙ sym (past-step (items lim) _ s at (h .0) (e .0) (h .1))
+        ∙ sym (past-step (itemsHead lim) _ s at (h .0) (e .0) (h .1))
     go (Refused why) f =
-        past-stop (items lim) _ s at why (refused-past (items lim) s at why f) ∙ sym (past-stop (items lim) _ s at why (refused-past (items lim) s at why f))
+        past-stop (itemsHead lim) _ s at why (refused-past (itemsHead lim) s at why f) ∙ sym (past-stop (itemsHead lim) _ s at why (refused-past (itemsHead lim) s at why f))
 
 -- skip_value
 module _ (s : List ℕ) (lim : TConfiguration) (room : ℕ) (kind : TType) (at : ℕ) (r : Skipped) where
@@ -127,17 +127,17 @@ no-items : (x : Found (TType × ℕ)) (why : ℕ) → toList x ≡ L.Refused why
 no-items (got h e) why f = let z : _≡_ {A = ℕ} 0 1 = cc in absurd (omega arith)
 no-items (refused y) why f = let q : y ≡ why = cc in ap refused q
 
-module _ (s : List ℕ) (lim : TConfiguration) (room at : ℕ) (h : ListHead) (e : h ≡ itemsAt s lim at) where
+module _ (s : List ℕ) (lim : TConfiguration) (room at : ℕ) (h : ListHead) (e : h ≡ itemsHeadAt s lim at) where
   pub list-refused : (why : ℕ) → h ≡ L.Refused why → Refused why ≡ skipOf s lim (suc room) T.List at
-  unfolding skipOf valueOf itemsAt
-  list-refused why g = sym (past-stop (items lim) _ s at why (no-items (readAt (items lim) s at) why (sym e ∙ g)))
+  unfolding skipOf valueOf itemsHeadAt
+  list-refused why g = sym (past-stop (itemsHead lim) _ s at why (no-items (readAt (itemsHead lim) s at) why (sym e ∙ g)))
 
   module _ (t : TType) (n : ℕ) (p : Place) (g : h ≡ L.Got t n p) (b : Bool) (f : b ≡ startable t n) where
     behind-head : skipOf s lim (suc room) T.List at ≡ past (provided (startable t n) BAD-TYPE (andThen (many (valueOf lim room t) n) (λ ts. done (val.list t ts)))) s (p .0)
-    unfolding skipOf valueOf itemsAt
+    unfolding skipOf valueOf itemsHeadAt
     behind-head =
-        let x = is-items (readAt (items lim) s at) t n p (sym e ∙ g) in
-        past-step (items lim) _ s at (x .0) (p .0) (x .1)
+        let x = is-items (readAt (itemsHead lim) s at) t n p (sym e ∙ g) in
+        past-step (itemsHead lim) _ s at (x .0) (p .0) (x .1)
         ∙ ap₂ (λ (u : TType) (m : ℕ). past (provided (startable u m) BAD-TYPE (andThen (many (valueOf lim room u) m) (λ ts. done (val.list u ts)))) s (p .0)) (x .2) (x .3)
 
     pub list-stop : b ≡ false → Refused BAD-TYPE ≡ skipOf s lim (suc room) T.List at
@@ -204,17 +204,17 @@ abbrev pairs-behind : TConfiguration → ℕ → TType → TType → ℕ → Rea
 pairs-behind lim room k v n =
     provided (startable k n) BAD-TYPE (provided (startable v n) BAD-TYPE (andThen (manyPairs (valueOf lim room k) (valueOf lim room v) n) (λ ps. done (val.map k v ps))))
 
-module _ (s : List ℕ) (lim : TConfiguration) (room at : ℕ) (h : MapHead) (e : h ≡ pairsAt s lim at) where
+module _ (s : List ℕ) (lim : TConfiguration) (room at : ℕ) (h : MapHead) (e : h ≡ pairsHeadAt s lim at) where
   pub map-refused : (why : ℕ) → h ≡ M.Refused why → Refused why ≡ skipOf s lim (suc room) T.Map at
-  unfolding skipOf valueOf pairsAt
-  map-refused why g = sym (past-stop (pairs lim) _ s at why (no-pairs-head (readAt (pairs lim) s at) why (sym e ∙ g)))
+  unfolding skipOf valueOf pairsHeadAt
+  map-refused why g = sym (past-stop (pairsHead lim) _ s at why (no-pairs-head (readAt (pairsHead lim) s at) why (sym e ∙ g)))
 
   module _ (k v : TType) (n : ℕ) (p : Place) (g : h ≡ M.Got k v n p) (b : Bool) (f : b ≡ startable k n) where
     behind-map : skipOf s lim (suc room) T.Map at ≡ past (pairs-behind lim room k v n) s (p .0)
-    unfolding skipOf valueOf pairsAt
+    unfolding skipOf valueOf pairsHeadAt
     behind-map =
-        let x = is-pairs (readAt (pairs lim) s at) k v n p (sym e ∙ g) in
-        past-step (pairs lim) _ s at (x .0) (p .0) (x .1)
+        let x = is-pairs (readAt (pairsHead lim) s at) k v n p (sym e ∙ g) in
+        past-step (pairsHead lim) _ s at (x .0) (p .0) (x .1)
         ∙ ap (λ (u : TType). past (pairs-behind lim room u (x .0 .1) (x .0 .2)) s (p .0)) (x .2)
         ∙ ap₂ (λ (u : TType) (m : ℕ). past (pairs-behind lim room k u m) s (p .0)) (x .3) (x .4)
 
@@ -388,7 +388,7 @@ module _ (s : List ℕ) (lim : TConfiguration) (room : ℕ) (t : TType) (n : ℕ
   pub list-again : (r : Skipped) (e : Place) → 0 < left → r ≡ skipOf s lim room t (p .0) → r ≡ Done e → past (many (valueOf lim room t) (left - 1)) s (e .0) ≡ past (many (valueOf lim room t) n) s (p₀ .0)
   list-again r e h f g = many-next s lim room t left (p .0) h r f e g ∙ inv
 
-  module _ (at : ℕ) (h : ListHead) (e : h ≡ itemsAt s lim at) (g : h ≡ L.Got t n p₀) (b : Bool) (f : b ≡ startable t n) (k : b ≡ true) where
+  module _ (at : ℕ) (h : ListHead) (e : h ≡ itemsHeadAt s lim at) (g : h ≡ L.Got t n p₀) (b : Bool) (f : b ≡ startable t n) (k : b ≡ true) where
     pub list-broken : (r : Skipped) (why : ℕ) → 0 < left → r ≡ skipOf s lim room t (p .0) → r ≡ Refused why → Refused why ≡ skipOf s lim (suc room) T.List at
     list-broken r why l x y = many-no s lim room t left (p .0) l r x why y ∙ inv ∙ list-in s lim room at h e t n p₀ g b f k
 

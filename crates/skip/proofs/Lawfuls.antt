@@ -4,22 +4,25 @@ use mathlib.Core.Bool.{Bool}
 use mathlib.Core.List.{List, [], _∷_, _++_}
 use Prim.Native.Nat.{ℕ, zero, suc, _+_, _-_, _≤_, _<_}
 use native.Mathlib.Omega.{arith}
-use lib.ListN.{length, take, drop, length-drop}
+use lib.ListN.{length, take, drop, length-drop, length-take, take-append-drop}
 use lib.IntN.{ℤ, pos}
 use Rattle.types.specs.Refusals.{BAD-TYPE, DEPTH}
 use Rattle.types.specs.declared.TType.{TType}
 use Rattle.types.specs.declared.TType.the-variants as T
 use Rattle.types.specs.declared.TConfiguration.{TConfiguration}
 use Rattle.types.specs.Value as val
-use Rattle.types.specs.Value.{Tree, Trees, Pairs}
+use Rattle.types.specs.Value.{Tree}
 use Rattle.numbers.specs.Varint.{Found, got, refused}
 use Rattle.heads.specs.Reader.{Reader, done, refuse, andThen, provided}
-use Rattle.heads.specs.Heads.{Field, stop, bool, value, field, items, pairs}
-use Rattle.heads.proofs.Lawful.{Lawful, LawfulAt, Takes, not-both, done-lawful, refuse-lawful, then-lawful, then-lawful-at, lawful-at, at-lawful, provided-lawful, then-takes}
-use Rattle.heads.proofs.Readers.{int8-lawful, int16-lawful, int32-lawful, int64-lawful, double-lawful, uuid-lawful, truth-lawful, binary-lawful, items-lawful, pairs-lawful, field-lawful, int8-takes, int16-takes, int32-takes, int64-takes, double-takes, uuid-takes, truth-takes, binary-takes, items-takes, pairs-takes, field-takes}
+use Rattle.heads.specs.Heads.{Field, stop, bool, value, field}
+use Rattle.heads.proofs.Lawful.{Lawful, LawfulAt, Takes, not-both, done-lawful, then-lawful-at, lawful-at, at-lawful, then-takes}
+use Rattle.heads.proofs.Ahead.{itemsHead-takes, pairsHead-takes}
+use Rattle.heads.proofs.Readers.{field-lawful, int8-takes, int16-takes, int32-takes, int64-takes, double-takes, uuid-takes, truth-takes, binary-takes, field-takes}
 use Rattle.skip.specs.Walk.{Entry, withSize, sizing, behind, fields}
-use Rattle.skip.specs.Value.{many, manyPairs, fieldsOf, startable, Boxes, shut, roomy, shaped, valueOf}
+use Rattle.skip.specs.Value.{valueOf}
 use Rattle.skip.proofs.Walks.{sized, fields-step}
+use Rattle.skip.proofs.Sound.{sound}
+use Rattle.skip.proofs.Complete.{complete}
 
 -- with its size
 sized-is : {A : Type 0} (x : Found A) (a : A) (n : ℕ) → x ≡ got a n → withSize x ≡ got (a, n) n
@@ -81,65 +84,24 @@ module _ {A : Type 0} (truth : Bool → A) (f : TType → Reader A) (lf : (t : T
   pub fields-takes : (last : ℤ) → Takes (fields truth f last)
   fields-takes last bs a n e = then-takes (sizing (field last)) _ (sizing-takes (field last) (field-takes last)) bs a n (sym (fields-step truth f last bs) ∙ e)
 
--- values in a row
-pub many-lawful : (p : Reader Tree) → Lawful p → (n : ℕ) → Lawful (many p n)
-unfolding many
-many-lawful p lp zero = done-lawful _
-many-lawful p lp (suc n) = then-lawful p _ lp (λ t. then-lawful (many p n) _ (many-lawful p lp n) (λ ts. done-lawful _))
-
-pub manyPairs-lawful : (p q : Reader Tree) → Lawful p → Lawful q → (n : ℕ) → Lawful (manyPairs p q n)
-unfolding manyPairs
-manyPairs-lawful p q lp lq zero = done-lawful _
-manyPairs-lawful p q lp lq (suc n) =
-    then-lawful p _ lp (λ k. then-lawful q _ lq (λ v. then-lawful (manyPairs p q n) _ (manyPairs-lawful p q lp lq n) (λ ps. done-lawful _)))
-
--- the four that hold others, and the value
-pub record BoxesLawful (b : Boxes) : Type 0 where
-  pub list : Lawful (b .list)
-  pub set : Lawful (b .set)
-  pub map : Lawful (b .map)
-  pub struct : Lawful (b .struct)
-
-shut-lawful : BoxesLawful shut
-shut-lawful = record { list = refuse-lawful DEPTH; set = refuse-lawful DEPTH; map = refuse-lawful DEPTH; struct = refuse-lawful DEPTH }
-
+-- What is read is spelt by the bytes that it took, and spelt bytes are read so whatever stands behind them: so a value's reader is lawful, though the
+-- headers in it ask for bytes ahead.
 module _ (lim : TConfiguration) where
-  items-then : (inner : TType → Reader Tree) → ((t : TType) → Lawful (inner t)) → (g : TType → Trees → Tree) → Lawful (andThen (items lim) (λ h. provided (startable (h .0) (h .1)) BAD-TYPE (andThen (many (inner (h .0)) (h .1)) (λ ts. done (g (h .0) ts)))))
-  items-then inner l g =
-      then-lawful (items lim) _ (items-lawful lim)
-      (λ h. provided-lawful _ BAD-TYPE _ (then-lawful (many (inner (h .0)) (h .1)) _ (many-lawful (inner (h .0)) (l (h .0)) (h .1)) (λ ts. done-lawful _)))
+  module _ (room : ℕ) (ty : TType) (bs : List ℕ) (t : Tree) (n : ℕ) (e : valueOf lim room ty bs ≡ got t n) where
+    value-again : (rest : List ℕ) → valueOf lim room ty (take n bs ++ rest) ≡ got t (length (take n bs))
+    value-again rest = complete t lim room ty (take n bs) (sound lim room ty bs t n e) rest
 
-  roomy-lawful : (inner : TType → Reader Tree) → ((t : TType) → Lawful (inner t)) → BoxesLawful (roomy lim inner)
-  roomy-lawful inner l =
-      record {
-        list = items-then inner l val.list;
-        set = items-then inner l val.set;
-        map =
-            then-lawful (pairs lim) _ (pairs-lawful lim)
-            (λ h. provided-lawful _ BAD-TYPE _ (provided-lawful _ BAD-TYPE _
-            (then-lawful (manyPairs (inner (h .0)) (inner (h .1)) (h .2)) _ (manyPairs-lawful (inner (h .0)) (inner (h .1)) (l (h .0)) (l (h .1)) (h .2)) (λ ps. done-lawful _))));
-        struct = then-lawful (fields val.truth inner (pos 0)) _ (fields-lawful val.truth inner l (pos 0)) (λ fs. done-lawful _);
-      }
+    value-size : length (take n bs) ≡ n
+    value-size = let f : got t (length (take n bs)) ≡ got t n = sym (value-again (drop n bs)) ∙ ap (valueOf lim room ty) (take-append-drop n bs) ∙ e in cc
 
-  shaped-lawful : (b : Boxes) → BoxesLawful b → (t : TType) → Lawful (shaped lim b t)
-  shaped-lawful b l T.Stop = refuse-lawful _
-  shaped-lawful b l T.Bool = then-lawful _ _ truth-lawful (λ a. done-lawful _)
-  shaped-lawful b l T.I08 = then-lawful _ _ int8-lawful (λ a. done-lawful _)
-  shaped-lawful b l T.I16 = then-lawful _ _ int16-lawful (λ a. done-lawful _)
-  shaped-lawful b l T.I32 = then-lawful _ _ int32-lawful (λ a. done-lawful _)
-  shaped-lawful b l T.I64 = then-lawful _ _ int64-lawful (λ a. done-lawful _)
-  shaped-lawful b l T.Double = then-lawful _ _ double-lawful (λ a. done-lawful _)
-  shaped-lawful b l T.String = then-lawful _ _ (binary-lawful lim) (λ a. done-lawful _)
-  shaped-lawful b l T.List = l .list
-  shaped-lawful b l T.Set = l .set
-  shaped-lawful b l T.Map = l .map
-  shaped-lawful b l T.Struct = l .struct
-  shaped-lawful b l T.Uuid = then-lawful _ _ uuid-lawful (λ a. done-lawful _)
+    value-ends : n ≤ length bs
+    value-ends = omega (arith, sym (length-take n bs) ∙ value-size)
+
+    value-front : (rest : List ℕ) → valueOf lim room ty (take n bs ++ rest) ≡ got t n
+    value-front rest = value-again rest ∙ ap (got t) value-size
 
   pub value-lawful : (room : ℕ) (t : TType) → Lawful (valueOf lim room t)
-  unfolding valueOf
-  value-lawful zero t = shaped-lawful shut shut-lawful t
-  value-lawful (suc room) t = shaped-lawful (roomy lim (valueOf lim room)) (roomy-lawful (valueOf lim room) (value-lawful room)) t
+  value-lawful room t = record { ends = value-ends room t; front = value-front room t }
 
   -- at least a byte
   refuse-takes : (why : ℕ) → Takes (refuse {A = Tree} why)
@@ -152,9 +114,9 @@ module _ (lim : TConfiguration) where
   value-takes zero T.Set = refuse-takes DEPTH
   value-takes zero T.Map = refuse-takes DEPTH
   value-takes zero T.Struct = refuse-takes DEPTH
-  value-takes (suc room) T.List = then-takes _ _ (items-takes lim)
-  value-takes (suc room) T.Set = then-takes _ _ (items-takes lim)
-  value-takes (suc room) T.Map = then-takes _ _ (pairs-takes lim)
+  value-takes (suc room) T.List = then-takes _ _ (itemsHead-takes lim)
+  value-takes (suc room) T.Set = then-takes _ _ (itemsHead-takes lim)
+  value-takes (suc room) T.Map = then-takes _ _ (pairsHead-takes lim)
   value-takes (suc room) T.Struct = then-takes _ _ (fields-takes val.truth (valueOf lim room) (value-lawful room) (pos 0))
   value-takes zero T.Stop = refuse-takes BAD-TYPE
   value-takes (suc room) T.Stop = refuse-takes BAD-TYPE

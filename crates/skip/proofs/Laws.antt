@@ -24,7 +24,7 @@ use Rattle.input.specs.declared.Awaited.the-variants as W
 use Rattle.input.specs.declared.ReadDone.{ReadDone}
 use Rattle.input.proofs.Gate.{Sound, is-sound, sound-is}
 use Rattle.input.proofs.Refusals.{Shown}
-use Rattle.input.proofs.Laws.{CallLaws, Way, unsound, early, lost, well, numberOf, laws}
+use Rattle.input.proofs.Laws.{CallLaws, any, Way, unsound, early, lost, well, numberOf, laws}
 use Rattle.skip.specs.Value.{valueOf}
 use Rattle.skip.specs.Skip.{past, skipOf, over, roomOf, awaited, skips, skipCall}
 use Rattle.skip.specs.declared.Skipped.{Skipped}
@@ -63,32 +63,34 @@ module _ (kind : TType) (s : List ℕ) (st : State) (o : sound (length s) st ≡
   agree : (p : ℕ) (t : List ℕ) → st .place .0 ≤ p → p ≤ length s → take p t ≡ take p s → st .place .0 ≤ length t
   agree p t h i q = omega (arith, as-long p s t i q)
 
-  taken-way : (b : Bool) → st .pending .0 ≡ W.Truth b → (k : Bool) → eqb (typeCode kind) 1 ≡ k → Way (skips kind) (late kind) s st
+  taken-way : (b : Bool) → st .pending .0 ≡ W.Truth b → (k : Bool) → eqb (typeCode kind) 1 ≡ k → Way any (skips kind) (late kind) s st
   taken-way b e true k =
       well o (rw (e, k)) tt (withPending st W.Nothing) (omega arith) (sound-next (withPending st W.Nothing) refl refl at-place)
-      (λ t q. goes t (W.Truth b) (agree (st .place .0) t (omega arith) at-place q) e ∙ rw k)
+      (goes s (W.Truth b) at-place e ∙ rw k)
+      (λ t q u. goes t (W.Truth b) (agree (st .place .0) t (omega arith) at-place q) e ∙ rw k)
   taken-way b e false k = early o (rw (e, k)) (goes s (W.Truth b) at-place e ∙ rw k)
 
-  over-way : st .pending .0 ≡ W.Nothing → (x : Skipped) → skipOf s (st .limits) (roomOf st) kind (st .place .0) ≡ x → Way (skips kind) (late kind) s st
+  over-way : st .pending .0 ≡ W.Nothing → (x : Skipped) → skipOf s (st .limits) (roomOf st) kind (st .place .0) ≡ x → Way any (skips kind) (late kind) s st
   over-way e (Done p) f =
       let lo = skip-later s (st .limits) (roomOf st) kind (st .place .0) p f in
       let hi = skip-inside s (st .limits) (roomOf st) kind (st .place .0) p f in
       well o (rw e) tt (movedTo st p) (omega arith) (sound-next (movedTo st p) refl refl hi)
-      (λ t q. goes t W.Nothing (agree (p .0) t (omega arith) hi q) e ∙ ap (over st) (skip-behind s t (st .limits) (roomOf st) kind (st .place .0) (p .0) q f))
+      (goes s W.Nothing at-place e ∙ ap (over st) f)
+      (λ t q u. goes t W.Nothing (agree (p .0) t (omega arith) hi q) e ∙ ap (over st) (skip-behind s t (st .limits) (roomOf st) kind (st .place .0) (p .0) q f))
   over-way e (Refused why) f = lost o (rw e) why (skip-shown s st kind why f) (goes s W.Nothing at-place e ∙ ap (over st) f)
 
-  sound-way : (w : Awaited) → st .pending .0 ≡ w → Way (skips kind) (late kind) s st
+  sound-way : (w : Awaited) → st .pending .0 ≡ w → Way any (skips kind) (late kind) s st
   sound-way W.Nothing e = over-way e _ refl
   sound-way (W.Truth b) e = taken-way b e _ refl
 
-skip-ways : (kind : TType) (s : List ℕ) (st : State) → Way (skips kind) (late kind) s st
+skip-ways : (kind : TType) (s : List ℕ) (st : State) → Way any (skips kind) (late kind) s st
 unfolding skips
 skip-ways kind s st = go (sound (length s) st) refl
   where
-    go : (b : Bool) → sound (length s) st ≡ b → Way (skips kind) (late kind) s st
+    go : (b : Bool) → sound (length s) st ≡ b → Way any (skips kind) (late kind) s st
     go true o = sound-way kind s st o (st .pending .0) refl
     go false o = unsound o (rw o)
 
-pub skip-laws : (kind : TType) → CallLaws (λ s st. skipCall s st kind) (λ r. numberDone (r .answer)) (λ r. r .state) (late kind)
+pub skip-laws : (kind : TType) → CallLaws any (λ s st. skipCall s st kind) (λ r. numberDone (r .answer)) (λ r. r .state) (late kind)
 unfolding skipCall
-skip-laws kind = laws (skips kind) (late kind) (skip-ways kind) asDone _ _ (λ o. numDone (o .said)) (λ o. refl)
+skip-laws kind = laws any (skips kind) (late kind) (skip-ways kind) asDone _ _ (λ o. numDone (o .said)) (λ o. refl)

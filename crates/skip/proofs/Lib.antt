@@ -7,7 +7,10 @@ pub mod Cycle
 pub mod Short
 pub mod Complete
 pub mod Sound
+pub mod Least
 pub mod Theorems
+pub mod Unless
+pub mod Counts
 pub mod Room
 pub mod Samples
 pub mod Call

@@ -18,12 +18,13 @@ use Rattle.types.specs.Value as val
 use Rattle.types.specs.Value.{Tree, Trees, no-trees, tree, Pairs, no-pairs, pair, Fields, no-fields, size, sizeP}
 use Rattle.numbers.specs.Varint.{Found, got, refused, placed}
 use Rattle.heads.specs.Reader.{Reader, done, refuse, onward, andThen, provided, Whole}
-use Rattle.heads.specs.Heads.{int8, int16, int32, int64, double, uuid, truth, binary, items, pairs, Field, stop, bool, value, field}
+use Rattle.heads.specs.Heads.{int8, int16, int32, int64, double, uuid, truth, binary, items, pairs, itemsHead, pairsHead, Field, stop, bool, value, field}
 use Rattle.heads.specs.Spells.{Spells, SpellsAll, SpellsPairs, SpellsFields}
 use Rattle.heads.proofs.Lawful.{Lawful, Both, both, not-both, whole-of}
+use Rattle.heads.proofs.Ahead.{items-of, pairs-of}
 use Rattle.heads.proofs.Readers.{int8-lawful, int16-lawful, int32-lawful, int64-lawful, double-lawful, uuid-lawful, truth-lawful, binary-lawful, items-lawful, pairs-lawful, field-lawful, field-takes}
 use Rattle.skip.specs.Walk.{Entry, withSize, sizing, behind, fields}
-use Rattle.skip.specs.Value.{many, manyPairs, fieldsOf, startable, Boxes, shut, roomy, shaped, valueOf}
+use Rattle.skip.specs.Value.{many, manyPairs, fieldsOf, startable, Boxes, shut, boxed, roomy, shaped, valueOf}
 use Rattle.skip.proofs.Walks.{sized, fields-step}
 
 -- two readers, taken apart
@@ -36,7 +37,7 @@ unfolding done
 done-is a bs b n e = (cc, cc)
 
 -- a reader, and what was made of what it read
-unmade : {A B : Type 0} (p : Reader A) (g : A → B) (bs : List ℕ) (b : B) (n : ℕ) → andThen p (λ a. done (g a)) bs ≡ got b n → (a : A) × (p bs ≡ got a n) × (b ≡ g a)
+pub unmade : {A B : Type 0} (p : Reader A) (g : A → B) (bs : List ℕ) (b : B) (n : ℕ) → andThen p (λ a. done (g a)) bs ≡ got b n → (a : A) × (p bs ≡ got a n) × (b ≡ g a)
 unmade p g bs b n e =
     let f = apart p (λ a. done (g a)) bs b n e in
     let d = done-is (g (f .one)) (drop (f .used) bs) b (f .more) (f .second) in
@@ -139,32 +140,43 @@ module _ (lim : TConfiguration) (room : ℕ) (inner : TType → Reader Tree) (gi
 one-less : (room : ℕ) → suc room - 1 ≡ room
 one-less room = omega arith
 
-module _ (lim : TConfiguration) (room : ℕ) (inner : TType → Reader Tree) (gi : (t : TType) → Good lim room t (inner t)) where
-  items-good : (ty : TType) (g : TType → Trees → Tree) → ((t : TType) (ts : Trees) (h b bs : List ℕ) → Whole (items lim) (t, size ts) h → SpellsAll ts lim (suc room - 1) t b → bs ≡ h ++ b → Spells (g t ts) lim (suc room) ty bs) → Good lim (suc room) ty (andThen (items lim) (λ h. provided (startable (h .0) (h .1)) BAD-TYPE (andThen (many (inner (h .0)) (h .1)) (λ ts. done (g (h .0) ts)))))
+pub record BoxesGood (lim : TConfiguration) (room : ℕ) (b : Boxes) : Type 0 where
+  pub list : Good lim room T.List (b .list)
+  pub set : Good lim room T.Set (b .set)
+  pub map : Good lim room T.Map (b .map)
+  pub struct : Good lim room T.Struct (b .struct)
+
+-- headers that, where they are read, say what the rules say
+pub record Headed (lim : TConfiguration) (heads : Reader (TType × ℕ)) (maps : Reader (TType × TType × ℕ)) : Type 0 where
+  pub items-are : (bs : List ℕ) (h : TType × ℕ) (n : ℕ) → heads bs ≡ got h n → items lim bs ≡ got h n
+  pub pairs-are : (bs : List ℕ) (h : TType × TType × ℕ) (n : ℕ) → maps bs ≡ got h n → pairs lim bs ≡ got h n
+
+module _ (lim : TConfiguration) (room : ℕ) (inner : TType → Reader Tree) (gi : (t : TType) → Good lim room t (inner t)) (heads : Reader (TType × ℕ)) (maps : Reader (TType × TType × ℕ)) (hd : Headed lim heads maps) where
+  items-good : (ty : TType) (g : TType → Trees → Tree) → ((t : TType) (ts : Trees) (h b bs : List ℕ) → Whole (items lim) (t, size ts) h → SpellsAll ts lim (suc room - 1) t b → bs ≡ h ++ b → Spells (g t ts) lim (suc room) ty bs) → Good lim (suc room) ty (andThen heads (λ h. provided (startable (h .0) (h .1)) BAD-TYPE (andThen (many (inner (h .0)) (h .1)) (λ ts. done (g (h .0) ts)))))
   items-good ty g sp bs t n e =
-      let f = apart (items lim) (λ h. provided (startable (h .0) (h .1)) BAD-TYPE (andThen (many (inner (h .0)) (h .1)) (λ ts. done (g (h .0) ts)))) bs t n e in
+      let f = apart heads (λ h. provided (startable (h .0) (h .1)) BAD-TYPE (andThen (many (inner (h .0)) (h .1)) (λ ts. done (g (h .0) ts)))) bs t n e in
       let cs = drop (f .used) bs in
       let h = f .one in
       let u = unmade (many (inner (h .0)) (h .1)) (g (h .0)) cs t (f .more) (passed-test (startable (h .0) (h .1)) BAD-TYPE _ cs t (f .more) (f .second)) in
       let r = many-good lim room (h .0) (inner (h .0)) (gi (h .0)) (h .1) cs (u .0) (f .more) (u .1) in
       subst (λ (x : Tree). Spells x lim (suc room) ty (take n bs)) (sym (u .2))
       (sp (h .0) (u .0) (take (f .used) bs) (take (f .more) cs) (take n bs)
-      (subst (λ (k : ℕ). Whole (items lim) (h .0, k) (take (f .used) bs)) (sym (r .1)) (whole-of (items lim) (items-lawful lim) bs h (f .used) (f .first)))
+      (subst (λ (k : ℕ). Whole (items lim) (h .0, k) (take (f .used) bs)) (sym (r .1)) (whole-of (items lim) (items-lawful lim) bs h (f .used) (hd .items-are bs h (f .used) (f .first))))
       (subst (λ (k : ℕ). SpellsAll (u .0) lim k (h .0) (take (f .more) cs)) (sym (one-less room)) (r .0))
       (ap (λ (k : ℕ). take k bs) (f .all) ∙ take-add (f .used) (f .more) bs))
 
-  list-good : Good lim (suc room) T.List (roomy lim inner .list)
+  list-good : Good lim (suc room) T.List (boxed heads maps inner .list)
   unfolding Spells
   list-good = items-good T.List val.list (λ t ts h b bs w s q. (refl, omega arith, (h, b, w, s, q)))
 
-  set-good : Good lim (suc room) T.Set (roomy lim inner .set)
+  set-good : Good lim (suc room) T.Set (boxed heads maps inner .set)
   unfolding Spells
   set-good = items-good T.Set val.set (λ t ts h b bs w s q. (refl, omega arith, (h, b, w, s, q)))
 
-  map-good : Good lim (suc room) T.Map (roomy lim inner .map)
+  map-good : Good lim (suc room) T.Map (boxed heads maps inner .map)
   unfolding Spells
   map-good bs t n e =
-      let f = apart (pairs lim) (λ h. provided (startable (h .0) (h .2)) BAD-TYPE (provided (startable (h .1) (h .2)) BAD-TYPE (andThen (manyPairs (inner (h .0)) (inner (h .1)) (h .2)) (λ ps. done (val.map (h .0) (h .1) ps))))) bs t n e in
+      let f = apart maps (λ h. provided (startable (h .0) (h .2)) BAD-TYPE (provided (startable (h .1) (h .2)) BAD-TYPE (andThen (manyPairs (inner (h .0)) (inner (h .1)) (h .2)) (λ ps. done (val.map (h .0) (h .1) ps))))) bs t n e in
       let cs = drop (f .used) bs in
       let h = f .one in
       let u = unmade (manyPairs (inner (h .0)) (inner (h .1)) (h .2)) (val.map (h .0) (h .1)) cs t (f .more) (passed-test (startable (h .1) (h .2)) BAD-TYPE _ cs t (f .more) (passed-test (startable (h .0) (h .2)) BAD-TYPE _ cs t (f .more) (f .second))) in
@@ -175,30 +187,30 @@ module _ (lim : TConfiguration) (room : ℕ) (inner : TType → Reader Tree) (gi
         (
           take (f .used) bs,
           take (f .more) cs,
-          subst (λ (k : ℕ). Whole (pairs lim) (h .0, h .1, k) (take (f .used) bs)) (sym (r .1)) (whole-of (pairs lim) (pairs-lawful lim) bs h (f .used) (f .first)),
+          subst (λ (k : ℕ). Whole (pairs lim) (h .0, h .1, k) (take (f .used) bs)) (sym (r .1)) (whole-of (pairs lim) (pairs-lawful lim) bs h (f .used) (hd .pairs-are bs h (f .used) (f .first))),
           subst (λ (k : ℕ). SpellsPairs (u .0) lim k (h .0) (h .1) (take (f .more) cs)) (sym (one-less room)) (r .0),
           ap (λ (k : ℕ). take k bs) (f .all) ∙ take-add (f .used) (f .more) bs,
         ),
       )
 
-  struct-good : Good lim (suc room) T.Struct (roomy lim inner .struct)
+  struct-good : Good lim (suc room) T.Struct (boxed heads maps inner .struct)
   unfolding Spells Walked
   struct-good bs t n e =
       let u = unmade (fields val.truth inner (pos 0)) (λ es. val.struct (fieldsOf es)) bs t n e in
       subst (λ (x : Tree). Spells x lim (suc room) T.Struct (take n bs)) (sym (u .2))
       (refl, omega arith, subst (λ (k : ℕ). SpellsFields (fieldsOf (u .0)) lim k (pos 0) (take n bs)) (sym (one-less room)) (fields-good lim room inner gi (pos 0) bs (u .0) n (u .1)))
 
+  pub boxed-good : BoxesGood lim (suc room) (boxed heads maps inner)
+  boxed-good = record { list = list-good; set = set-good; map = map-good; struct = struct-good }
+
 refuse-good : (lim : TConfiguration) (room : ℕ) (ty : TType) (why : ℕ) → Good lim room ty (refuse why)
 unfolding refuse
 refuse-good lim room ty why bs t n e = not-both e
 
-pub record BoxesGood (lim : TConfiguration) (room : ℕ) (b : Boxes) : Type 0 where
-  pub list : Good lim room T.List (b .list)
-  pub set : Good lim room T.Set (b .set)
-  pub map : Good lim room T.Map (b .map)
-  pub struct : Good lim room T.Struct (b .struct)
+pub shut-good : (lim : TConfiguration) (room : ℕ) → BoxesGood lim room shut
+shut-good lim room = record { list = refuse-good lim room T.List DEPTH; set = refuse-good lim room T.Set DEPTH; map = refuse-good lim room T.Map DEPTH; struct = refuse-good lim room T.Struct DEPTH }
 
-shaped-good : (lim : TConfiguration) (room : ℕ) (b : Boxes) → BoxesGood lim room b → (ty : TType) → Good lim room ty (shaped lim b ty)
+pub shaped-good : (lim : TConfiguration) (room : ℕ) (b : Boxes) → BoxesGood lim room b → (ty : TType) → Good lim room ty (shaped lim b ty)
 unfolding Spells
 shaped-good lim room b g T.Stop = refuse-good lim room T.Stop BAD-TYPE
 shaped-good lim room b g T.Bool = leaf-good lim room T.Bool truth truth-lawful val.truth (λ a bs w. (refl, w))
@@ -217,8 +229,7 @@ shaped-good lim room b g T.Uuid = leaf-good lim room T.Uuid uuid uuid-lawful val
 -- by recursion on the room
 pub sound : (lim : TConfiguration) (room : ℕ) (ty : TType) → Good lim room ty (valueOf lim room ty)
 unfolding valueOf
-sound lim zero ty =
-    shaped-good lim zero shut (record { list = refuse-good lim zero T.List DEPTH; set = refuse-good lim zero T.Set DEPTH; map = refuse-good lim zero T.Map DEPTH; struct = refuse-good lim zero T.Struct DEPTH }) ty
+sound lim zero ty = shaped-good lim zero shut (shut-good lim zero) ty
 sound lim (suc room) ty =
     shaped-good lim (suc room) (roomy lim (valueOf lim room))
-    (record { list = list-good lim room (valueOf lim room) (sound lim room); set = set-good lim room (valueOf lim room) (sound lim room); map = map-good lim room (valueOf lim room) (sound lim room); struct = struct-good lim room (valueOf lim room) (sound lim room) }) ty
+    (boxed-good lim room (valueOf lim room) (sound lim room) (itemsHead lim) (pairsHead lim) (record { items-are = items-of lim; pairs-are = pairs-of lim })) ty

@@ -14,9 +14,9 @@ use Rattle.types.specs.Value as val
 use Rattle.types.specs.Value.{Tree, Trees}
 use Rattle.numbers.specs.Varint.{Found, got, refused}
 use Rattle.heads.specs.Reader.{Reader, done, andThen, provided}
-use Rattle.heads.specs.Heads.{Field, stop, bool, value, field, items, pairs}
+use Rattle.heads.specs.Heads.{Field, stop, bool, value, field, itemsHead, pairsHead}
 use Rattle.heads.proofs.Lawful.{not-both}
-use Rattle.input.proofs.Refusals.{Shown, shown, Told, done-told, refuse-told, then-told, provided-told, int8-told, int16-told, int32-told, int64-told, double-told, uuid-told, truth-told, binary-told, items-told, pairs-told, field-told}
+use Rattle.input.proofs.Refusals.{Shown, shown, Told, done-told, refuse-told, then-told, provided-told, int8-told, int16-told, int32-told, int64-told, double-told, uuid-told, truth-told, binary-told, itemsHead-told, pairsHead-told, field-told}
 use Rattle.skip.specs.Walk.{Entry, withSize, sizing, behind, walk, fields}
 use Rattle.skip.specs.Value.{many, manyPairs, startable, Boxes, shut, roomy, shaped, valueOf}
 
@@ -60,9 +60,9 @@ record BoxesTold (b : Boxes) : Type 0 where
   struct : Told (b .struct)
 
 module _ (lim : TConfiguration) where
-  items-then : (inner : TType → Reader Tree) → ((t : TType) → Told (inner t)) → (g : TType → Trees → Tree) → Told (andThen (items lim) (λ h. provided (startable (h .0) (h .1)) BAD-TYPE (andThen (many (inner (h .0)) (h .1)) (λ ts. done (g (h .0) ts)))))
+  items-then : (inner : TType → Reader Tree) → ((t : TType) → Told (inner t)) → (g : TType → Trees → Tree) → Told (andThen (itemsHead lim) (λ h. provided (startable (h .0) (h .1)) BAD-TYPE (andThen (many (inner (h .0)) (h .1)) (λ ts. done (g (h .0) ts)))))
   items-then inner l g =
-      then-told (items lim) _ (items-told lim)
+      then-told (itemsHead lim) _ (itemsHead-told lim)
       (λ h. provided-told (startable (h .0) (h .1)) BAD-TYPE _ (shown BAD-TYPE refl) (then-told (many (inner (h .0)) (h .1)) _ (many-told (inner (h .0)) (l (h .0)) (h .1)) (λ ts. done-told _)))
 
   roomy-told : (inner : TType → Reader Tree) → ((t : TType) → Told (inner t)) → BoxesTold (roomy lim inner)
@@ -71,7 +71,7 @@ module _ (lim : TConfiguration) where
         list = items-then inner l val.list;
         set = items-then inner l val.set;
         map =
-            then-told (pairs lim) _ (pairs-told lim)
+            then-told (pairsHead lim) _ (pairsHead-told lim)
             (λ h. provided-told (startable (h .0) (h .2)) BAD-TYPE _ (shown BAD-TYPE refl) (provided-told (startable (h .1) (h .2)) BAD-TYPE _ (shown BAD-TYPE refl)
             (then-told (manyPairs (inner (h .0)) (inner (h .1)) (h .2)) _ (manyPairs-told (inner (h .0)) (inner (h .1)) (l (h .0)) (l (h .1)) (h .2)) (λ ps. done-told _))));
         struct = then-told (fields val.truth inner (pos 0)) _ (fields-told val.truth inner l (pos 0)) (λ fs. done-told _);

@@ -13,7 +13,7 @@ use Rattle.types.specs.declared.TConfiguration.{TConfiguration}
 use Rattle.types.specs.Value as val
 use Rattle.types.specs.Value.{Tree, Trees, no-trees, tree, Pairs, no-pairs, pair, Fields, no-fields}
 use Rattle.heads.specs.Reader.{Reader, done, refuse, andThen, provided}
-use Rattle.heads.specs.Heads.{int8, int16, int32, int64, double, uuid, truth, binary, items, pairs}
+use Rattle.heads.specs.Heads.{int8, int16, int32, int64, double, uuid, truth, binary, items, pairs, itemsHead, pairsHead}
 use Rattle.skip.specs.Walk.{Entry, fields}
 
 -- n values, one behind the other
@@ -46,18 +46,22 @@ pub record Boxes : Type 0 where
 abbrev pub shut : Boxes
 shut = record { list = refuse DEPTH; set = refuse DEPTH; map = refuse DEPTH; struct = refuse DEPTH }
 
--- a container's header and then its elements, each read by `inner`
-abbrev pub roomy : TConfiguration → (TType → Reader Tree) → Boxes
-roomy lim inner =
+-- a container's header, which `items` or `pairs` reads, and then its elements, each read by `inner`
+abbrev pub boxed : Reader (TType × ℕ) → Reader (TType × TType × ℕ) → (TType → Reader Tree) → Boxes
+boxed items pairs inner =
     record {
-      list = andThen (items lim) (λ h. provided (startable (h .0) (h .1)) BAD-TYPE (andThen (many (inner (h .0)) (h .1)) (λ ts. done (val.list (h .0) ts))));
-      set = andThen (items lim) (λ h. provided (startable (h .0) (h .1)) BAD-TYPE (andThen (many (inner (h .0)) (h .1)) (λ ts. done (val.set (h .0) ts))));
+      list = andThen items (λ h. provided (startable (h .0) (h .1)) BAD-TYPE (andThen (many (inner (h .0)) (h .1)) (λ ts. done (val.list (h .0) ts))));
+      set = andThen items (λ h. provided (startable (h .0) (h .1)) BAD-TYPE (andThen (many (inner (h .0)) (h .1)) (λ ts. done (val.set (h .0) ts))));
       map =
-          andThen (pairs lim)
+          andThen pairs
           (λ h. provided (startable (h .0) (h .2)) BAD-TYPE (provided (startable (h .1) (h .2)) BAD-TYPE
           (andThen (manyPairs (inner (h .0)) (inner (h .1)) (h .2)) (λ ps. done (val.map (h .0) (h .1) ps)))));
       struct = andThen (fields val.truth inner (pos 0)) (λ fs. done (val.struct (fieldsOf fs)));
     }
+
+-- the headers' counts are held against the bytes left
+abbrev pub roomy : TConfiguration → (TType → Reader Tree) → Boxes
+roomy lim inner = boxed (itemsHead lim) (pairsHead lim) inner
 
 -- a value of a type: "Skip of Stop is BAD TYPE"; "Strings are not checked for UTF-8"
 abbrev pub shaped : TConfiguration → Boxes → TType → Reader Tree
@@ -79,3 +83,8 @@ shaped lim box T.Uuid = andThen uuid (λ u. done (val.uuid u))
 unfoldable pub valueOf : TConfiguration → ℕ → TType → Reader Tree
 valueOf lim zero ty = shaped lim shut ty
 valueOf lim (suc room) ty = shaped lim (roomy lim (valueOf lim room)) ty
+
+-- the same without that: any count is taken on trust. No contract cites it; the law `counts-only` says that it accepts the same.
+unfoldable pub uncounted : TConfiguration → ℕ → TType → Reader Tree
+uncounted lim zero ty = shaped lim shut ty
+uncounted lim (suc room) ty = shaped lim (boxed (items lim) (pairs lim) (uncounted lim room)) ty

@@ -132,21 +132,21 @@ impl<'a> TCompactInputProtocol<'a> {
         Ok(text(&self.input[start..end]))
     }
 
-    /// A list's header.
+    /// A list's header. END where so many elements can't be in what is left, so that room may be reserved by the size.
     pub fn read_list_begin(&mut self) -> Result<TListIdentifier, Refusal> {
         let (mut kind, mut count) = (0, 0);
         call!(self, tagrumzil_read_list_begin, &mut kind, &mut count)?;
         Ok(TListIdentifier { element_type: Self::kind(kind), size: count as i32 })
     }
 
-    /// A set's header.
+    /// A set's header, alike.
     pub fn read_set_begin(&mut self) -> Result<TListIdentifier, Refusal> {
         let (mut kind, mut count) = (0, 0);
         call!(self, tagrumzil_read_set_begin, &mut kind, &mut count)?;
         Ok(TListIdentifier { element_type: Self::kind(kind), size: count as i32 })
     }
 
-    /// A map's header.
+    /// A map's header, alike.
     pub fn read_map_begin(&mut self) -> Result<TMapIdentifier, Refusal> {
         let (mut key, mut value, mut count) = (0, 0, 0);
         call!(self, tagrumzil_read_map_begin, &mut key, &mut value, &mut count)?;

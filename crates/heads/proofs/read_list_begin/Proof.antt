@@ -1,5 +1,5 @@
 use borrow.Author.Needs.{needs}
-use Rattle.heads.proofs.Cases.{list-cases}
+use Rattle.heads.proofs.Ahead.{list-head-cases}
 use Rattle.heads.proofs.read_list_begin.Statement.{statement}
 use Rattle.heads.proofs.read_list_begin.Tie as tie
 
@@ -7,20 +7,11 @@ pub read-list-begin-spec : {M : Type 1} → statement M
 read-list-begin-spec =
     tie.close
     (tie.spec
-    (λ c. search list-cases)
-    (λ c. search needs)
-    (λ c κs. search needs)
-    (λ c. search needs)
-    (λ c. search needs)
-    (λ c. search needs)
-    (λ c. search needs)
-    (λ c κs. search needs)
-    (λ c. search list-cases)
-    (λ c. search needs)
     (λ c κs. search needs)
     (λ c. search needs)
     (λ c. search needs)
     (λ c κs. search needs)
-    (λ c. search list-cases)
-    (λ c. search list-cases)
-    (λ c. search list-cases))
+    (λ c κs. search needs)
+    (λ c. search list-head-cases)
+    (λ c. search list-head-cases)
+    (λ c. search list-head-cases))

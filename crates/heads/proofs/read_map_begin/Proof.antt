@@ -1,5 +1,5 @@
 use borrow.Author.Needs.{needs}
-use Rattle.heads.proofs.Cases.{map-cases}
+use Rattle.heads.proofs.Ahead.{map-head-cases}
 use Rattle.heads.proofs.read_map_begin.Statement.{statement}
 use Rattle.heads.proofs.read_map_begin.Tie as tie
 
@@ -10,7 +10,10 @@ read-map-begin-spec =
     (λ c κs. search needs)
     (λ c. search needs)
     (λ c. search needs)
-    (λ c. search map-cases)
     (λ c κs. search needs)
-    (λ c. search map-cases)
-    (λ c. search map-cases))
+    (λ c κs. search needs)
+    (λ c. search needs)
+    (λ c κs. search needs)
+    (λ c. search map-head-cases)
+    (λ c. search map-head-cases)
+    (λ c. search map-head-cases))
