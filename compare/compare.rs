@@ -22,6 +22,14 @@ impl io::Read for Tap<'_> {
     }
 }
 
+/// The same, with an end that moves: the input cut where the message must have ended.
+struct Cut<'a>(&'a [u8], &'a Cell<usize>, &'a Cell<usize>);
+impl io::Read for Cut<'_> {
+    fn read(&mut self, b: &mut [u8]) -> io::Result<usize> {
+        Tap(&self.0[..self.2.get()], self.1).read(b)
+    }
+}
+
 /// The scope's number of the crate's error; 99 where the error doesn't tell.
 fn number(e: &Error) -> u8 {
     match e {
@@ -350,7 +358,7 @@ struct Tally {
     picked: u64,
     wrote: BTreeMap<&'static str, u64>,
     differences: BTreeMap<&'static str, u64>,
-    refusals: [u64; 18],
+    refusals: [u64; 20],
     failed: u64,
 }
 impl Tally {
@@ -382,12 +390,24 @@ impl Rng {
     }
 }
 
+/// Where a call's input ends under a ceiling, for a message that began at a place.
+fn cut_of(s: &[u8], begin: usize, limits: port::TConfiguration) -> usize {
+    s.len().min(begin.saturating_add(limits.message as usize))
+}
+
+/// A byte missed at the cut is MESSAGE SIZE where there is input behind it.
+fn missing(why: u8, more: bool) -> u8 {
+    if more && why == 1 { 19 } else { why }
+}
+
 /// The calls in turn on one input, up to the first refusal of either side. After a refusal the port's state is as it was: it answers the same again.
+/// The crate, which has no ceiling, reads the input cut where the port's message must have ended.
 fn reads(t: &mut Tally, s: &[u8], limits: port::TConfiguration, calls: &mut dyn FnMut(Option<&V>) -> Option<Call>) {
-    let at = Cell::new(0);
-    let mut theirs = TCompactInputProtocol::with_config(Tap(s, &at), config(limits));
+    let (at, end) = (Cell::new(0), Cell::new(0));
+    let mut theirs = TCompactInputProtocol::with_config(Cut(s, &at, &end), config(limits));
     let mut ours = port::TCompactInputProtocol::with_config(s, limits);
     let mut before: Option<V> = None;
+    let mut begin = 0;
     let mut depth = 0;
     let mut pending = false;
     let mut made = Vec::new();
@@ -395,6 +415,10 @@ fn reads(t: &mut Tally, s: &[u8], limits: port::TConfiguration, calls: &mut dyn 
         made.push(c);
         let start = ours.place();
         t.read[index(c)] += 1;
+        let from = if c == Message { start } else { begin };
+        let cut = cut_of(s, from, limits);
+        let (seen, more) = (&s[..cut], cut < s.len());
+        end.set(cut);
         let a = by_crate(&mut theirs, &at, c);
         let b = by_port(&mut ours, c);
         if let Err(n) = b {
@@ -403,9 +427,22 @@ fn reads(t: &mut Tally, s: &[u8], limits: port::TConfiguration, calls: &mut dyn 
                 t.fail(format!("a refusal moved the state: {made:?} on {s:02x?}"));
             }
         }
-        let rule = if pending { None } else { broken(s, start, c, limits, depth) };
-        if rule.map_or(b == Err(17), |why| b != Err(why)) {
+        let rule = if pending { None } else { broken(seen, start, c, limits, depth) };
+        if rule.map_or(b == Err(17), |why| b != Err(missing(why, more))) {
             t.fail(format!("{made:?} limits {limits:?} on {s:02x?}: the rule says {rule:?}, port {b:?}"));
+        }
+        if b == Err(19) || more && b == Err(1) {
+            // The crate misses a byte at the cut, or a rule says that one is missed there; or the crate's own count of levels stops it before.
+            let known = match c {
+                _ if a == Err(1) || rule == Some(1) => Some("D30"),
+                Skip(k) => skip_difference(seen, start, limits, k, depth, &a, &Err(1)),
+                _ => None,
+            };
+            match known {
+                Some(d) if more && b == Err(19) => t.difference(d),
+                _ => t.fail(format!("{made:?} limits {limits:?} on {s:02x?}: crate {a:?}, port {b:?}")),
+            }
+            return;
         }
         if a != b {
             let known = match c {
@@ -413,7 +450,7 @@ fn reads(t: &mut Tally, s: &[u8], limits: port::TConfiguration, calls: &mut dyn 
                 // A bool field's value waits, and another call comes: out of the grammar's order, since the bytes are not what the caller takes them for.
                 Skip(0) if pending && b == Err(12) => Some("D10"),
                 _ if pending && b == Err(12) && c != Bool => Some("D8"),
-                Skip(k) => skip_difference(s, start, limits, k, depth, &a, &b),
+                Skip(k) => skip_difference(seen, start, limits, k, depth, &a, &b),
                 _ => None,
             };
             match known {
@@ -427,6 +464,7 @@ fn reads(t: &mut Tally, s: &[u8], limits: port::TConfiguration, calls: &mut dyn 
             (_, Bool | Skip(1)) => false,
             _ => pending,
         };
+        begin = from;
         match (b, c) {
             (Err(_), _) => return,
             (Ok(_), StructBegin) => depth += 1,
@@ -666,6 +704,7 @@ fn writes(t: &mut Tally, ws: &[W], limits: port::TConfiguration, room: usize) ->
     let mut buffer = vec![FILL; room];
     let mut ours = port::TCompactOutputProtocol::with_config(&mut buffer, limits);
     let mut last = 0;
+    let mut begin = 0;
     let mut outer = Vec::new();
     for (i, w) in ws.iter().enumerate() {
         *t.wrote.entry(wname(w)).or_default() += 1;
@@ -674,12 +713,16 @@ fn writes(t: &mut Tally, ws: &[W], limits: port::TConfiguration, room: usize) ->
         let b = port_writes(&mut ours, w);
         let end = ours.place();
         let bytes = sink.borrow().clone();
+        let from = if matches!(w, W::Message(..)) { start } else { begin };
+        let over = a == Ok(()) && bytes.len() > from + limits.message as usize;
         if let Err(n) = b {
             t.refusals[n as usize] += 1;
             let again = port_writes(&mut ours, w);
             if end != start || again != b || buffer[..start] != bytes[..start] || buffer[start..].iter().any(|x| *x != FILL) {
                 t.fail(format!("a refusal changed something: {:?}", &ws[..=i]));
-            } else if n == 14 && a == Ok(()) && bytes.len() > room {
+            } else if n == 19 && over {
+                t.difference("D30");
+            } else if n == 14 && a == Ok(()) && bytes.len() > room && !over {
                 t.difference("D25");
             } else if a != b {
                 match write_difference(w, last, limits, b) {
@@ -689,6 +732,10 @@ fn writes(t: &mut Tally, ws: &[W], limits: port::TConfiguration, room: usize) ->
             }
             return None;
         }
+        if over {
+            t.fail(format!("{:?} limits {limits:?}: written past the ceiling", &ws[..=i]));
+        }
+        begin = from;
         let same = a == b && bytes == ours.written();
         if !same {
             match write_difference(w, last, limits, b) {
@@ -763,15 +810,17 @@ fn picks(t: &mut Tally, r: &mut Rng, s: &[u8], limits: port::TConfiguration) {
     let mut skips = port::TCompactInputProtocol::with_config(s, limits);
     let skipped = skips.skip(port::TType::Struct).map_err(|e| e.number());
     t.picked += 1;
-    if let Some(why) = broken(s, 0, Skip(11), limits, 0) {
-        if answer == Err(why) { t.difference(ruled(why)) } else { t.fail(format!("pick {answer:?} where the rule says {why}, limits {limits:?} on {s:02x?}")) }
+    let cut = cut_of(s, 0, limits);
+    if let Some(why) = broken(&s[..cut], 0, Skip(11), limits, 0) {
+        let why = missing(why, cut < s.len());
+        if answer == Err(why) { t.difference(if why == 19 { "D30" } else { ruled(why) }) } else { t.fail(format!("pick {answer:?} where the rule says {why}, limits {limits:?} on {s:02x?}")) }
     }
     if (answer, ours.place()) != (skipped, skips.place()) {
         t.fail(format!("pick {answer:?} where skip is {skipped:?}, limits {limits:?} on {s:02x?}"));
     } else if found[if answer.is_ok() { ids.len() } else { 0 }..].iter().any(|x| *x != port::Picked::Bool(true)) {
         t.fail(format!("pick wrote what it should not, on {s:02x?}"));
     } else if answer.is_ok() {
-        match crate_picks(s, limits, &ids, &kinds) {
+        match crate_picks(&s[..cut], limits, &ids, &kinds) {
             Ok(theirs) if theirs != (found[..ids.len()].to_vec(), ours.place()) => t.fail(format!("pick {ids:?} {types:?} on {s:02x?}: crate {theirs:?}, port {found:?}")),
             _ => (),
         }
@@ -780,12 +829,33 @@ fn picks(t: &mut Tally, r: &mut Rng, s: &[u8], limits: port::TConfiguration) {
 
 // ------------------------------------------------------------------ the run
 
-const WIDE: port::TConfiguration = port::TConfiguration { depth: 64, string: i32::MAX as u32, container: i32::MAX as u32 };
+const WIDE: port::TConfiguration = port::TConfiguration { depth: 64, string: i32::MAX as u32, container: i32::MAX as u32, message: i32::MAX as u32 };
 
 fn some_limits(r: &mut Rng) -> port::TConfiguration {
     let size = |r: &mut Rng| r.pick(&[0, 1, 2, 3, 14, 15, 16, 127, 128, 1000, 1 << 20, 0x7fff_fffe, 0x7fff_ffff]);
     let (string, container) = (size(r), size(r));
-    port::TConfiguration { depth: r.pick(&[0, 1, 2, 3, 4, 63, 64]), string, container }
+    let message = if r.below(4) == 0 { r.below(60) as u32 } else { i32::MAX as u32 };
+    port::TConfiguration { depth: r.pick(&[0, 1, 2, 3, 4, 63, 64]), string, container, message }
+}
+
+/// A message, alone and with another behind it, under ceilings at the ends of its calls and a byte to either side, within them, 0 and the largest; and written under them.
+fn ceilings(t: &mut Tally, r: &mut Rng, bytes: &[u8], w: &[W], c: &[Call]) {
+    let mut reader = port::TCompactInputProtocol::with_config(bytes, WIDE);
+    let mut ends: Vec<usize> = c.iter().map(|c| { by_port(&mut reader, *c).ok(); reader.place() }).collect();
+    ends.extend([0, bytes.len(), bytes.len() + 1, i32::MAX as usize, r.below(bytes.len() as u64) as usize]);
+    let two = [bytes, bytes].concat();
+    let (twice, both) = ([w, w].concat(), [c, c].concat());
+    for _ in 0..3 {
+        let most = r.pick(&ends) + r.below(3) as usize;
+        let limits = port::TConfiguration { message: most.saturating_sub(1).min(i32::MAX as usize) as u32, ..WIDE };
+        for s in [bytes, &two] {
+            let mut i = 0;
+            reads(t, s, limits, &mut |_| { i += 1; both.get(i - 1).copied() });
+            let mut i = 0;
+            reads(t, s, limits, &mut |_| { i += 1; [Message, Skip(11), Message].get(i - 1).copied() });
+        }
+        writes(t, &twice, limits, if r.below(3) == 0 { r.below(two.len() as u64 + 1) as usize } else { two.len() });
+    }
 }
 
 fn every_call(t: &mut Tally, s: &[u8], limits: port::TConfiguration) {
@@ -862,6 +932,15 @@ fn main() {
             }
         }
     }
+    // each header and each scalar under every ceiling, with and without bytes behind
+    for s in [&[0x82, 0x21, 0x01, 0x01, 0x74, 0x11, 0x15, 0x01, 0x00][..], &[0x15, 0x02, 0x00], &[0x05, 0xFE, 0xFF, 0x03], &[0x35, 1, 2, 3], &[0xF3, 0x0F, 1, 2, 3, 4, 5, 6, 7, 8, 9, 10, 11, 12, 13, 14, 15],
+        &[0x01, 0x85, 0x01, 0x61, 0x02], &[0x03, 0x61, 0x62, 0x63], &[0x80, 0x80, 0x80, 0x80, 0x08], &[0x1C, 0x11, 0x00, 0x00], &[0x19, 0x25, 0x01, 0x02, 0x00], &[1; 18], &[0x27; 17]] {
+        for more in 0..3 {
+            for message in (0..s.len() as u32 + 2).chain([i32::MAX as u32]) {
+                every_call(&mut t, &padded(s, more), port::TConfiguration { message, ..WIDE });
+            }
+        }
+    }
     // every id before every first byte of a field, at the bounds
     for last in [-32768i16, -32767, -15, -14, -1, 0, 1, 32752, 32753, 32754, 32759, 32760, 32766, 32767] {
         let mut head = vec![5];
@@ -893,7 +972,7 @@ fn main() {
                 writes(&mut t, &[w], WIDE, room);
             }
             for k in 0..13 {
-                for limits in [WIDE, port::TConfiguration { depth: 1, string: 3, container: 15 }] {
+                for limits in [WIDE, port::TConfiguration { depth: 1, string: 3, container: 15, message: 9 }] {
                     writes(&mut t, &[W::List(k, z)], limits, room);
                     writes(&mut t, &[W::Set(k, z)], limits, room);
                     writes(&mut t, &[W::Map(k, (k + z.unsigned_abs() as usize) % 13, z)], limits, room);
@@ -901,7 +980,7 @@ fn main() {
                 }
             }
             let text: String = "é".repeat((z & 0xff) as usize % 70);
-            for limits in [WIDE, port::TConfiguration { depth: 1, string: 60, container: 15 }] {
+            for limits in [WIDE, port::TConfiguration { depth: 1, string: 60, container: 15, message: 70 }] {
                 for w in [W::Str(text.clone()), W::Bytes(vec![7; (z & 0x1ff) as usize]), W::Message((z & 3) as usize, z, text.clone())] {
                     writes(&mut t, &[w], limits, room * 16);
                 }
@@ -931,6 +1010,7 @@ fn main() {
         run(&mut t, &bytes, limits);
         let other = some_limits(&mut r);
         run(&mut t, &bytes, other);
+        ceilings(&mut t, &mut r, &bytes, &w, &c);
         // the struct by itself, picked, and copies of it that are damaged
         if kind == 11 {
             let (mut w, mut c) = (Vec::new(), Vec::new());
@@ -1002,7 +1082,7 @@ fn main() {
     let b = port::TCompactInputProtocol::with_config(&[], WIDE).read_struct_end().map_err(|e| e.number());
     if panics && b == Err(12) { t.difference("D11") } else { t.fail(format!("struct end at depth 0: panics {panics}, port {b:?}")) }
     // limits that no state may have
-    for limits in [port::TConfiguration { depth: 65, ..WIDE }, port::TConfiguration { string: 1 << 31, ..WIDE }, port::TConfiguration { container: u32::MAX, ..WIDE }] {
+    for limits in [port::TConfiguration { depth: 65, ..WIDE }, port::TConfiguration { string: 1 << 31, ..WIDE }, port::TConfiguration { container: u32::MAX, ..WIDE }, port::TConfiguration { message: 1 << 31, ..WIDE }] {
         for c in READS {
             let b = by_port(&mut port::TCompactInputProtocol::with_config(&[0; 32], limits), c);
             if b == Err(15) { t.difference("D13") } else { t.fail(format!("{c:?} under {limits:?}: port {b:?}")) }

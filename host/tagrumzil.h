@@ -11,11 +11,17 @@
  *   row[1]  in the low 16 bits the last field id, in two's complement; above them what waits. Reader: 0 nothing, 1 a bool field's true, 2 its false. Writer:
  *           0 nothing, or 1 more than the 16 bits of the id of the bool field whose header is to be written with its value
  *   row[2]  how many structs are open
- *   row[3]  the limit on depth, 0 to 64
+ *   row[3]  in the low 32 bits the limit on depth, 0 to 64, in the high 32 bits the ceiling, the most bytes that a message may have, 0 to 2147483647
  *   row[4]  in the low 32 bits the limit on the length of a string or binary, in the high 32 bits the limit on the count of a container; each 0 to 2147483647
- * A new one has zeros and its limits (tagrumzil_row below makes it), and (int16_t) (uint16_t) row[1] is the last id of any. The ids of the structs around stand
+ *   row[5]  the place where the message began: of its header's first byte, which the message calls set, or before any message where the state was made
+ * A new one has zeros and its limits (tagrumzil_row below makes it; at another place than 0 it has that place in row[0] and in row[5]), and
+ * (int16_t) (uint16_t) row[1] is the last id of any. The ids of the structs around stand
  * in a row of TAGRUMZIL_IDS numbers of their own, which only the struct calls take. A row of another length, or with a number out of these ranges, holds no
- * state: TAGRUMZIL_BAD_STATE.
+ * state: TAGRUMZIL_BAD_STATE; so does one whose place lies before row[5], or more bytes behind it than the ceiling. TAGRUMZIL_LAYOUT is the number of this
+ * layout: it changes when a row of one layout no longer reads as the same state.
+ *
+ * THE CEILING. Reading acts as if the input ended at row[5] plus the ceiling: a byte missed there, with input behind it, is TAGRUMZIL_MESSAGE_SIZE. A writer's
+ * call whose bytes would end behind it is refused so, before TAGRUMZIL_NO_ROOM.
  *
  * Types go by number: 0 stop, 1 bool, 3 i8, 4 i16, 5 i32, 6 i64, 7 double, 8 string or binary, 9 list, 10 set, 11 map, 12 struct, 13 uuid. Any other number
  * is TAGRUMZIL_BAD_TYPE. Messages: 1 call, 2 reply, 3 exception, 4 oneway; any other is TAGRUMZIL_BAD_MESSAGE_TYPE.
@@ -31,7 +37,9 @@
 extern "C" {
 #endif
 
-enum { TAGRUMZIL_ROW = 5, TAGRUMZIL_IDS = 64 };
+#define TAGRUMZIL_LAYOUT 2
+
+enum { TAGRUMZIL_ROW = 6, TAGRUMZIL_IDS = 64 };
 
 enum {
     TAGRUMZIL_END = 1,              /* a byte needed lies past the input, or a container's elements can't be in what is left of it */
@@ -47,17 +55,24 @@ enum {
     TAGRUMZIL_BAD_UTF8 = 11,        /* a string or a message name that is not UTF-8 */
     TAGRUMZIL_OUT_OF_TURN = 12,     /* a bool waits for the bool call; or a struct is ended that was not begun */
     TAGRUMZIL_NO_ROOM = 14,         /* the buffer is too short for this call's bytes */
-    TAGRUMZIL_BAD_STATE = 15,       /* the rows hold no state; a limit out of its range; a place past the end; a depth over its limit */
+    TAGRUMZIL_BAD_STATE = 15,       /* the rows hold no state; a limit out of its range; a place past the end, before the message's beginning or past its
+                                       ceiling; a depth over its limit */
     TAGRUMZIL_BAD_LIST = 16,        /* wanted ids and types differ in number, over 64 of them, an id twice, or a type that no field can have */
-    TAGRUMZIL_RANGE = 17            /* an i16, as value or field id, outside -32768 to 32767 */
+    TAGRUMZIL_RANGE = 17,           /* an i16, as value or field id, outside -32768 to 32767 */
+    TAGRUMZIL_MESSAGE_SIZE = 19     /* a byte needed lies past the message's ceiling, with input behind it; a call's bytes would pass it */
 };
 
-/* A new state under these limits. */
-static inline void tagrumzil_row(uint64_t row[TAGRUMZIL_ROW], uint64_t depth, uint32_t string, uint32_t container)
+/* A new state under these limits, and under those of the crate thrift: depth 64, strings of 100 MiB, any count, messages of 100 MiB. */
+static inline void tagrumzil_row(uint64_t row[TAGRUMZIL_ROW], uint32_t depth, uint32_t string, uint32_t container, uint32_t message)
 {
-    row[0] = row[1] = row[2] = 0;
-    row[3] = depth;
+    row[0] = row[1] = row[2] = row[5] = 0;
+    row[3] = (uint64_t) message << 32 | depth;
     row[4] = (uint64_t) container << 32 | string;
+}
+
+static inline void tagrumzil_default_row(uint64_t row[TAGRUMZIL_ROW])
+{
+    tagrumzil_row(row, 64, 104857600, 2147483647, 104857600);
 }
 
 /* ---- Numbers, which need no state. `*end` is the place behind what was read or written. */
@@ -81,7 +96,8 @@ uint64_t tagrumzil_i64_to_zigzag(int64_t value);
 
 /* ---- The reader. (s, n) is the input, (row, m) the state. */
 
-/* A message's header: its type, its sequence number, and where its name, which is UTF-8, starts and ends in the input. The last id is 0 from then on. */
+/* A message's header: its type, its sequence number, and where its name, which is UTF-8, starts and ends in the input. The last id is 0 from then on,
+ * and the message is counted from the header's first byte. */
 uint8_t tagrumzil_read_message_begin(const uint8_t *s, size_t n, uint64_t *row, size_t m, uint8_t *kind, int32_t *sequence, size_t *start, size_t *end);
 /* Begins a struct: the last id is put by, and is 0. DEPTH. */
 uint8_t tagrumzil_read_struct_begin(const uint8_t *s, size_t n, uint64_t *row, size_t m, int16_t *ids, size_t k);
@@ -118,7 +134,7 @@ uint8_t tagrumzil_pick(const uint8_t *s, size_t n, uint64_t *row, size_t m, cons
 
 /* ---- The writer. (buf, n) is the buffer, (row, m) the state. A refused call has written nothing. */
 
-/* A message's header. The name is UTF-8 and within the limit on strings. */
+/* A message's header. The name is UTF-8 and within the limit on strings. The message is counted from the header's first byte. */
 uint8_t tagrumzil_write_message_begin(uint8_t *buf, size_t n, uint64_t *row, size_t m, uint8_t kind, int32_t sequence, const uint8_t *name, size_t k);
 /* Begins a struct: the last id is put by, and is 0. No byte is written. */
 uint8_t tagrumzil_write_struct_begin(uint8_t *buf, size_t n, uint64_t *row, size_t m, int16_t *ids, size_t k);

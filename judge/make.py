@@ -556,7 +556,8 @@ def skip_answers(judges):
 
 
 def reader_answers(judges, tests):
-    return rows.reader_answers(judges, list(rows.reader_rows()) + list(rows.skip_rows()) + [('the published tests of thrift 0.24.0', tests.reads)])
+    groups = list(rows.reader_rows()) + list(rows.skip_rows()) + [('the published tests of thrift 0.24.0', tests.reads)]
+    return list(rows.reader_answers(judges, groups)) + list(rows.capped_answers(judges, list(rows.capped_rows())))
 
 
 def writer_answers(judges, tests):

@@ -16,7 +16,8 @@ KINDS = [n for n in NAMES if n != 0]
 MOST = 2147483647
 WIDE = (64, MOST, MOST)
 MARK = b'\xaa'
-BAD_TYPE, SIZE_LIMIT, NEGATIVE, DEPTH, BAD_UTF8, OUT_OF_TURN, NO_ROOM, BAD_STATE = 4, 8, 9, 10, 11, 12, 14, 15
+BAD_TYPE, SIZE_LIMIT, NEGATIVE, DEPTH, BAD_UTF8, OUT_OF_TURN, NO_ROOM, BAD_STATE, MESSAGE_SIZE = 4, 8, 9, 10, 11, 12, 14, 15, 19
+PUTS = ('place', 'depth', 'ceiling', 'began')
 
 
 def agree(what, *words):
@@ -36,13 +37,16 @@ class Writer:
     def __init__(self, limits, room):
         self.depth_limit, self.string_limit, self.container_limit = limits
         self.buffer, self.place, self.last, self.ids, self.depth, self.pending = bytearray(MARK * room), 0, 0, [], 0, None
+        self.ceiling, self.began = MOST, 0
 
     def call(self, name, *args):
         """None, or the number of the refusal."""
-        if name in ('place', 'depth'):
+        if name in PUTS:
             setattr(self, name, args[0])
             return None
         if self.depth_limit > 64 or max(self.string_limit, self.container_limit) > MOST or self.place > len(self.buffer) or self.depth > self.depth_limit:
+            return BAD_STATE
+        if self.ceiling > MOST or not self.began <= self.place <= self.began + self.ceiling:
             return BAD_STATE
         if self.pending is not None and name != 'bool':
             return OUT_OF_TURN
@@ -50,8 +54,12 @@ class Writer:
         if wrong:
             return wrong
         data = self.spell(name, args)
+        began = self.place if name == 'message' else self.began
+        if self.place + len(data) > began + self.ceiling:
+            return MESSAGE_SIZE
         if self.place + len(data) > len(self.buffer):
             return NO_ROOM
+        self.began = began
         self.buffer[self.place:self.place + len(data)] = data
         self.place += len(data)
         self.move(name, args)
@@ -172,7 +180,7 @@ class Row:
         """The room that all of its calls need."""
         writer = Writer(self.limits, 1 << 16)
         for call in self.calls:
-            if call[0] not in ('place', 'depth'):
+            if call[0] not in PUTS:
                 writer.call(*call)
         return writer.place
 
@@ -303,6 +311,7 @@ def refused_rows():
     yield 'a place at the end of the buffer', [Row([('place', 4), c], room=4, number='-') for c in SCALARS + HEADERS + [('end',)]]
     yield 'a depth over its limit, on every call (the crate has no such state)', [
         Row([('depth', d), c, ('depth', 0), ('i8', 1)], limits=(limit, 9, 9), number='-') for limit, d in ((0, 1), (3, 4), (64, 65), (64, (1 << 64) - 1)) for c in SCALARS + HEADERS + [('end',)]]
+    yield from ceiling_rows()
     yield 'which of two refusals is given', order_rows()
     yield 'calls by chance, under small limits and in a small room', [chance_row(random.Random(k)) for k in range(500)]
 
@@ -330,6 +339,46 @@ def no_room_rows():
                                                          if r < Row([('field', 1, i), ('bool', b)]).least()]
 
 
+def under(ceiling, calls, **more):
+    """A row under a ceiling. Where a call is refused for it the crate, which has none, writes on: D30."""
+    row = Row([('ceiling', ceiling)] + calls, **more)
+    if f'refused {MESSAGE_SIZE}' in replayed(row)[0]:
+        row.number = row.number or 'D30'
+    return row
+
+
+def ceiling_rows():
+    """(title, rows): each call at every ceiling from 0 to enough, between a byte before it and one behind; messages one behind the other; states that are none."""
+    for c in SCALARS + HEADERS:
+        enough = Row([('i8', 7), c, ('stop',)]).least()
+        yield 'a ceiling: ' + spelt(c)[:60], [under(n, [('i8', 7), c, ('stop',)]) for n in (range(enough + 1) if enough < 30 else [*range(6), *range(enough - 4, enough + 1)])]
+        size = Row([c]).least()
+        yield 'a ceiling comes before the room: ' + spelt(c)[:60], [
+            under(n, [c], room=room, number='+') for n in {max(size - 1, 0), size, MOST} for room in {0, max(size - 1, 0), size}]
+    yield 'a ceiling: the last id stays', [under(n, [('field', 5, 3), ('field', 5, i), ('field', 5, 4)]) for i in (300, 32767, 18, 4) for n in range(1, 4)]
+    yield 'a ceiling: a bool field stays pending', [
+        under(n, [('field', 1, i), ('bool', b), ('ceiling', 9), ('bool', b), ('stop',)], number='+') for i in (1, 300, 32767) for b in (0, 1) for n in range(4)]
+    whole = [('message', 1, 1, b't'), ('begin',), ('field', 1, 1), ('bool', 1), ('field', 5, 2), ('i32', -1), ('stop',), ('end',)]
+    yield 'a message of 9 bytes and another, each counted from its first byte', [under(n, whole + whole + [('i8', 1)], number='+') for n in [*range(13), 17, 18, 19, MOST]]
+    yield 'before any message the count is the state\'s, a refused message leaves it', [
+        under(n, [('i32', 1), ('message', 1, 1, b'a' * k), ('i64', 1 << 40), ('i8', 1)], number='+') for n in range(9) for k in (0, 2, 5)]
+    every = SCALARS + HEADERS + [('end',)]
+    late = lambda calls, room=8: Row(calls, room=room, number='-')
+    yield 'a ceiling out of range, on every call (the crate has none)', [late([('ceiling', n), c, ('ceiling', MOST), ('i8', 1)]) for n in (MOST + 1, 4294967295) for c in every]
+    yield 'a beginning past the place, on every call', [late([('began', n), c, ('began', 0), ('i8', 1)]) for n in (1, 8, (1 << 64) - 1) for c in every]
+    yield 'a place past the cut, on every call', [late([('place', 6), ('began', b), ('ceiling', n), c, ('ceiling', 9), ('i8', 1)]) for b, n in ((0, 5), (2, 3), (5, 0)) for c in every]
+    yield 'a place at the cut: what writes no byte passes', [late([('place', 6), ('began', b), ('ceiling', n), c]) for b, n in ((0, 6), (2, 4), (6, 0)) for c in every]
+    yield 'what a ceiling comes behind', [late([('ceiling', 0), c]) for c in (
+        ('list', 5, -1), ('list', 0, 1), ('field', 0, 1), ('string', b'\xff'), ('message', 1, 1, b'\xff'), ('end',))] + [late([('ceiling', 0), ('field', 1, 1), c]) for c in (('stop',), ('i8', 1), ('message', 1, 1, b''))] + [
+        Row([('ceiling', 0), c], limits=(0, 1, 1), room=8, number='-') for c in (('begin',), ('bytes', b'ab'), ('string', b'ab'), ('message', 1, 1, b'ab'), ('list', 5, 2), ('map', 5, 5, 2))]
+    yield 'calls by chance, under a ceiling', [capped(chance_row(random.Random(k)), k % 31) for k in range(1000, 1200)]
+
+
+def capped(row, ceiling):
+    row.calls.insert(0, ('ceiling', ceiling))
+    return row
+
+
 def order_rows():
     late = lambda calls, limits=WIDE, room=8: Row(calls, limits=limits, room=room, number='-')
     pending = [('field', 1, 1)]
@@ -354,7 +403,7 @@ def replayed(row):
         place = writer.place
         why = writer.call(*call)
         told.append(f'refused {why}' if why else str(writer.place))
-        made.append(None if why or call[0] in ('place', 'depth') else bytes(writer.buffer[place:writer.place]))
+        made.append(None if why or call[0] in PUTS else bytes(writer.buffer[place:writer.place]))
     return told, made, bytes(writer.buffer)
 
 
@@ -366,7 +415,7 @@ def writer_answers(judges, groups):
     # Without the calls that the rules refuse, and with room for all: what both have a word on.
     clean = judges.row_words([f'W {row.limits[0]} - ' + ' '.join(harness(c) for c in kept(row)) if kept(row) else '#' for row in asked])
     # As it stands; in the row's own room only where that is the difference.
-    whole = judges.row_words([f'W {row.limits[0]} {row.room if row.number == "D25" else "-"} ' + ' '.join(map(harness, row.calls)) for row in asked])
+    whole = judges.row_words([f'W {row.limits[0]} {row.room if row.number == "D25" else "-"} ' + ' '.join(harness(c) for c in row.calls if c[0] not in PUTS) for row in asked])
     crate = {id(row): words for row, *words in zip(asked, clean, whole)}
     for title, rs in groups:
         yield '# writer ' + title, None
@@ -401,7 +450,9 @@ def compare(row, told, made, clean, whole):
     if row.number == '+':
         return
     expected = []
-    for answer, d in zip(told, made):
+    for call, answer, d in zip(row.calls, told, made):
+        if call[0] in PUTS:
+            continue
         if d is None:
             expected.append('!' + answer.split()[1])
             break
@@ -470,6 +521,10 @@ def reader_rows():
         ('ff', [('list',), ('bool',), ('i8',)]), ('05ffffffffff', [('string',), ('bytes',), ('field',), ('i8',)]), ('0e02', [('field',), ('list',)]))]
     yield from range_rows()
     yield from count_rows()
+    forged = lambda puts, c: Read(b'\x15\x02\x04\x06', [('i8',), *puts, c], number='-', refused={1 + len(puts): BAD_STATE}, ruled={0: '21 1'} | {1 + k: '1' for k in range(len(puts))})
+    every = others + [('bool',), ('end',), ('skip', 5), ('skip', 0)]
+    yield 'a ceiling out of range, a beginning past the place, a place past the cut, on every call (the crate has none)', [
+        forged(puts, c) for puts in ([('ceiling', MOST + 1)], [('ceiling', 4294967295)], [('began', 2)], [('began', (1 << 64) - 1)], [('ceiling', 0)], [('ceiling', 1), ('began', 2)]) for c in every]
     yield 'a limit that is out of range, on every call (the crate takes it: D13)', [
         Read(b'\x15\x02', [c], limits=limits, number='-', refused={0: BAD_STATE})
         for limits in ((65, 0, 0), (64, MOST + 1, 0), (64, 0, MOST + 1), (1 << 63, 4294967295, 0)) for c in others + [('bool',), ('end',), ('skip', 5), ('skip', 0)]]
@@ -517,6 +572,84 @@ def count_rows():
         ('64de', ('map',), 100), ('1e', ('list',), MOST))]
     yield 'skip: a count is held against the bytes left before its elements are looked at', [Read(hexes(h), [('skip', kind), ('i8',)]) for h, kind in (
         ('2103', 9), ('211103', 9), ('2580', 10), ('30', 9), ('300000', 9), ('30000000', 9), ('0130', 11), ('01300000', 11), ('0111037f', 11), ('192300', 12), ('19230000', 12), ('1923000000', 12), ('292303', 9), ('1923030303', 9))]
+
+
+class Capped:
+    """Calls under a ceiling. Of each the crate is asked on the input cut where the message must have ended by then, behind the calls that were not refused: a byte that it misses
+    there, with input behind the cut, is MESSAGE SIZE. A row ends at its third refusal."""
+
+    def __init__(self, data, calls, ceiling, limits=WIDE):
+        self.data, self.calls, self.ceiling, self.limits = data, list(calls), ceiling, limits
+        self.answers, self.kept, self.place, self.began, self.depth, self.pending, self.capped = [], [], 0, 0, 0, False, False
+
+    def call(self):
+        return self.calls[len(self.answers)]
+
+    def cut(self):
+        return (self.place if self.call() == ('message',) else self.began) + self.ceiling
+
+    def line(self, data, calls):
+        return f'R {" ".join(map(str, self.limits))} - {word(data)} ' + ' '.join(map(harness, calls))
+
+    def ask(self):
+        return self.line(self.data[:self.cut()], self.kept + [self.call()])
+
+    def take(self, words):
+        call, cut = self.call(), self.cut()
+        rule = None if self.pending else rules.broken(self.data[:cut], self.place, call, (self.limits[0] - self.depth,) + self.limits[1:])
+        if self.pending and call not in (('bool',), ('skip', 1)):
+            self.answers.append(f'refused {OUT_OF_TURN}')
+        elif rule or words.startswith('!'):
+            why = rule.why if rule else int(words[1:])
+            over = why == rules.END and cut < len(self.data)
+            self.capped |= over
+            self.answers.append(f'refused {MESSAGE_SIZE if over else why}')
+        else:
+            self.answers.append(spoken(call, words))
+            self.kept.append(call)
+            self.began = self.place if call == ('message',) else self.began
+            self.place, self.depth = int(words.rsplit('@', 1)[1]), self.depth + {'begin': 1, 'end': -1}.get(call[0], 0)
+            self.pending = call == ('field',) and words.split('@')[0].endswith(',bool')
+        if sum(a.startswith('refused') for a in self.answers) == 3:
+            del self.calls[len(self.answers):]
+
+
+def capped_rows():
+    """(title, rows): ceilings from 0 to behind the end, in every header and at each call's end."""
+    dice = random.Random(19)
+    nine, reads = bytes.fromhex('822101017411150100'), [('message',), ('skip', 12), ('i8',)]
+    ceilings = lambda n: [*range(n + 3), MOST]
+    yield 'a message of 9 bytes: nothing, a byte and another message behind it', [Capped(nine + more, reads + reads, n) for more in (b'', b'\x05', nine) for n in ceilings(9)]
+    yield 'the same cut short: a byte missed at the true end', [Capped(nine[:k], reads, n) for k in (4, 8) for n in ceilings(9)]
+    yield 'before any message', [Capped(nine[5:] + b'\x07', [('begin',), ('field',), ('bool',), ('field',), ('i32',), ('field',), ('end',), ('i8',)], n) for n in ceilings(5)]
+    scalars = [(b'\x01', 'bool'), (b'\x05', 'i8'), (b'\xff\xff\x03', 'i16'), (b'\xff\xff\xff\xff\x0f', 'i32'), (b'\xff' * 9 + b'\x01', 'i64'), (bytes(8), 'double'), (bytes(16), 'uuid'),
+               (b'\x03abc', 'bytes'), (b'\x03abc', 'string'), (b'\x35\x00\x02\x04', 'list'), (b'\xf3\x0f' + bytes(15), 'set'), (b'\x01\x85\x01a\x00', 'map'), (b'\x01\x00', 'map')]
+    yield 'each call between a byte before it and one behind', [Capped(b'\x07' + data + b'\x08', [('i8',), (name,), ('i8',)], n) for data, name in scalars for n in ceilings(len(data) + 2)]
+    kinds = [(9, b'\x35\x00\x02\x04'), (10, b'\x27' + bytes(16)), (11, b'\x01\x85\x01a\x00'), (12, nine[5:]), (8, b'\x03abc'), (13, bytes(16)), (9, b'\x29\x25\x00\x02\x13\x05')]
+    yield 'skip: each type, between a byte before it and one behind', [Capped(b'\x07' + data + b'\x08', [('i8',), ('skip', kind), ('i8',)], n) for kind, data in kinds for n in ceilings(len(data) + 2)]
+    yield 'a limit comes before the ceiling', [Capped(data, [c, ('i8',)], n, limits=(64, 2, 2)) for data, c in (
+        (b'\x03abc', ('bytes',)), (b'\x35\x00\x02\x04', ('list',)), (b'\x35\x00\x02\x04', ('skip', 9)), (b'\x03\x55' + bytes(6), ('map',))) for n in range(5)]
+    rows = []
+    for _ in range(50):
+        data, calls = written([('message', dice.randrange(1, 5), dice.randrange(-99, 99), b'call')] + chance_value(dice, 12, 4))
+        more, behind = written([('message', 1, 1, b'')] + chance_value(dice, 12, 2))
+        rows += [Capped(data + more, calls + behind, n) for n in (dice.randrange(len(data)), len(data) - 1, len(data), max(len(data), len(more)))]
+    yield 'messages by chance, with another behind: a ceiling in the first, one byte less than it, its length, enough for both', rows
+
+
+def capped_answers(judges, groups):
+    rows = [row for _, rs in groups for row in rs]
+    words = lambda asked: [agree(line, *[w.split(' ; ')[0] for w in both]) for line, both in zip(asked, judges.row_words(asked))]
+    whole = dict(zip(map(id, rows), words([row.line(row.data, row.calls) for row in rows])))
+    while live := [row for row in rows if len(row.answers) < len(row.calls)]:
+        for row, told in zip(live, words([row.ask() for row in live])):
+            row.take(told.split()[-1])
+    for title, rs in groups:
+        yield '# reader under a ceiling: ' + title, None
+        for row in rs:
+            if row.capped:
+                yield '# D30, the crate: ' + ' '.join(whole[id(row)].split()[:len(row.calls)]), None
+            yield f'reader {" ".join(map(str, row.limits))} {word(row.data)} ceiling {row.ceiling} ' + ' '.join(map(spelt, row.calls)), ' '.join(['0'] + row.answers)
 
 
 def skip_rows():

@@ -5,6 +5,7 @@ alone, where nothing before them breaks one that the crate has as well. It answe
 those bytes begin. A rule more is a `raise Refused` in `Walk`, with the number of its difference and that place, and a cause in `checked` for the crate to confirm.
 The crate has a word on both halves of what is found. Given the bytes before that place, it misses a byte: so it refused nothing up to there. And the cause is its own: of
 an i16 out of range, its i32 call reads a number outside 16 bits; of a count that can't be there, its header call reads the types and the count (`checked`).
+The ceiling per message (D30) is no part of the walk: there the crate is asked on the input cut where the message must have ended (`Capped` in rows.py).
 """
 from collections import namedtuple
 

@@ -16,7 +16,7 @@ static int failed;
 static void refused(const char *call, uint8_t number, const uint64_t row[TAGRUMZIL_ROW])
 {
     uint64_t fresh[TAGRUMZIL_ROW];
-    tagrumzil_row(fresh, 64, INT32_MAX, INT32_MAX);
+    tagrumzil_row(fresh, 64, INT32_MAX, INT32_MAX, INT32_MAX);
     int kept = memcmp(fresh, row, sizeof fresh) == 0;
     printf("%s: refused %u%s\n", call, number, kept ? "" : ", and the row has moved");
     if (number != TAGRUMZIL_END || !kept)
@@ -32,7 +32,7 @@ int main(void)
     uint8_t listed = 9;
     size_t found[3] = {9, 9, 9};
 
-    tagrumzil_row(row, 64, INT32_MAX, INT32_MAX);
+    tagrumzil_row(row, 64, INT32_MAX, INT32_MAX, INT32_MAX);
     refused("list", tagrumzil_read_list_begin(LIST, sizeof LIST, row, TAGRUMZIL_ROW, &kind, &count), row);
     refused("set", tagrumzil_read_set_begin(LIST, sizeof LIST, row, TAGRUMZIL_ROW, &kind, &count), row);
     refused("map", tagrumzil_read_map_begin(MAP, sizeof MAP, row, TAGRUMZIL_ROW, &kind, &value, &count), row);

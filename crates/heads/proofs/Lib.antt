@@ -5,4 +5,5 @@ pub mod Fields
 pub mod Readers
 pub mod Ahead
 pub mod Samples
+pub mod Cut
 pub mod Tails

@@ -26,7 +26,7 @@ structFrame = 0x19 ∷ damaged ++ replicate 33 0
 
 -- containers of at most 100
 abbrev small : TConfiguration
-small = record { depth = 64; string = 100; container = 100 }
+small = record { depth = 64; string = 100; container = 100; message = 100 }
 
 pub Samples : Type 0
 Samples =

@@ -1,11 +1,11 @@
 -- Readers: what takes bytes from the front of those that are left, and how readers are put together. Assumes nothing: these are definitions.
 use Prim.Native.Nat.{ℕ, _+_}
 use mathlib.Core.Path.{_≡_}
-use mathlib.Core.Bool.{Bool, cond}
+use mathlib.Core.Bool.{Bool, cond, _&&_}
 use mathlib.Core.List.{List, [], _∷_}
 use lib.ListN.{length, take, drop}
-use lib.Dec.{leb}
-use Rattle.types.specs.Refusals.{END}
+use lib.Dec.{leb, ltb, eqb}
+use Rattle.types.specs.Refusals.{END, MESSAGE-SIZE}
 use Rattle.numbers.specs.Varint.{Found, got, refused, placed}
 
 -- what a reader finds in the bytes that are left: a value and how many bytes it took, or the number of a refusal
@@ -56,3 +56,15 @@ Whole p a bs = p bs ≡ got a (length bs)
 -- a reader at a place of the input: what it finds, with the place behind it
 unfoldable pub readAt : {A : Type 0} → Reader A → List ℕ → ℕ → Found A
 readAt p s at = placed at (p (drop at s))
+
+-- what a missed byte is: MESSAGE SIZE where there is input behind the cut, END at the true end
+abbrev pub missing : Bool → ℕ → ℕ
+missing more why = cond (more && eqb why END) MESSAGE-SIZE why
+
+abbrev pub missed : {A : Type 0} → Bool → Found A → Found A
+missed more (got a e) = got a e
+missed more (refused why) = refused (missing more why)
+
+-- "Reading acts as if the input ended at" the cut: "a byte missed there, with input behind it, gives 19, MESSAGE SIZE, and a byte missed at the true end gives END"
+unfoldable pub readTo : {A : Type 0} → Reader A → List ℕ → ℕ → ℕ → Found A
+readTo p s cut at = missed (ltb cut (length s)) (readAt p (take cut s) at)

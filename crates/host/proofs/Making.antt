@@ -18,7 +18,6 @@ use Rattle.types.specs.Limits.{inRange}
 use Rattle.types.specs.Codes.{typeCode, typeByNumber, truthCode, messageByNumber}
 use Rattle.types.specs.declared.FieldId.{FieldId}
 use Rattle.types.specs.declared.SeqNo.{SeqNo}
-use Rattle.types.specs.declared.TConfiguration.{TConfiguration}
 use Rattle.types.specs.declared.TType.{TType}
 use Rattle.types.specs.declared.TType.the-variants as T
 use Rattle.types.specs.declared.TypeRead.{TypeRead}
@@ -27,25 +26,28 @@ use Rattle.types.specs.declared.TMessageType.{TMessageType}
 use Rattle.types.specs.declared.MessageTypeRead.{MessageTypeRead}
 use Rattle.types.specs.declared.MessageTypeRead.the-variants as MR
 use Rattle.types.proofs.Codes.{number-is}
+use Rattle.zigzag.specs.Zigzag.{zigzag}
+use Rattle.numbers.specs.Varint.{fewest}
 use Rattle.numbers.specs.Answers.{wroteAt, putAt}
 use Rattle.numbers.specs.declared.Wrote.{Wrote}
 use Rattle.numbers.specs.declared.Wrote.the-variants as W
 use Rattle.numbers.proofs.Found.{by-lt}
 use Rattle.numbers.proofs.Put.{wrote-to, wrote-not}
-use Rattle.puts.specs.Bytes.{fieldBytes, pairsBytes, messageBytes}
+use Rattle.puts.specs.Bytes.{above, intBytes, fieldBytes, itemsBytes, pairsBytes, stringBytes, messageBytes}
 use Rattle.puts.specs.Wrong.{orElse, lengthWrong, textWrong, fieldWrong, countWrong}
 use Rattle.puts.proofs.Pieces.{code-below, truth-below}
 use Rattle.puts.proofs.Checks.{both-none}
 use Rattle.puts.proofs.Deltas.{wide, wide-fits}
-use Rattle.output.specs.State.{State, unsound, turn, inTurn, movedTo, headed, awaiting}
-use Rattle.output.specs.Calls.{Call, call, refusedBy, written, settled, writes, leaves, messageCall, fieldCall, boolCall, truthCall, itemsCall, pairsCall}
+use Rattle.output.specs.State.{State, unsound, turn, inTurn, begunHere, movedTo, headed, awaiting, cutOf}
+use Rattle.output.specs.Calls.{Call, call, refusedBy, written, settled, sizeWrong, writes, leaves, messageCall, fieldCall, boolCall, truthCall, itemsCall, pairsCall}
 use Rattle.output.specs.declared.AwaitedField.{AwaitedField}
 use Rattle.output.specs.declared.AwaitedField.the-variants as A
-use Rattle.output.proofs.Cases.{refusing, keeping, writing, putting, noting, untouched, int-is, byte-is, items-is, pairs-is}
-use Rattle.rows.specs.Row.{lastIn, limitsOf, writerTop, writerIn, fieldOf, fieldNo, writerOf, writerAfter, wroteNumber, wroteRow, headedRow}
+use Rattle.output.proofs.Checks.{unsized, turn-over}
+use Rattle.output.proofs.Cases.{refusing, keeping, writing, putting, noting, untouched, int-is, byte-is, items-is, pairs-is, double-size, message-size}
+use Rattle.rows.specs.Row.{lastIn, limitsOf, writerTop, writerIn, fieldOf, fieldNo, writerOf, writerAfter, wroteNumber, wroteRow, headedRow, begunRow}
 use Rattle.rows.specs.Writes.{Kept, Made, wrongCall, isNone, fieldBy, fieldOfType, itemsBy, itemsOfType, pairsBy, pairsOfTypes, messageBy, messageOfType}
 use Rattle.rows.proofs.Cases.{writer-left}
-use Rattle.rows.proofs.Gate.{Open, Waiting, held, writer-gate, writer-opens, writer-order, writer-is, writer-free, writer-moves, writer-heads, writer-stays, writer-awaits, row-headed}
+use Rattle.rows.proofs.Gate.{Open, Waiting, held, writer-gate, writer-opens, writer-order, writer-is, writer-free, writer-moves, writer-heads, writer-begins, writer-stays, writer-awaits, row-headed}
 
 or-first : (a b : ℕ) → (a ≡ 0 → ⊥) → a ≡ orElse a b
 unfolding orElse
@@ -57,21 +59,21 @@ or-second b = refl
 
 -- a call that is refused n, and one that puts its bytes at the row's place: `f` is the row behind what was written
 module _ (buf row : List ℕ) (w : ℕ) (bs : List ℕ) (next : State) where
-  stopped : (n : ℕ) → n ≡ orElse (unsound (length buf) (writerOf row)) w → (n ≡ 0 → ⊥) → Made row row buf buf n (writerOf row) (call w bs next)
+  stopped : (n : ℕ) → n ≡ orElse (unsound (length buf) (writerOf row)) (orElse w (sizeWrong next (length bs))) → (n ≡ 0 → ⊥) → Made row row buf buf n (writerOf row) (call w bs next)
   stopped n e h =
       let k : Kept row row n (refusedBy (writerOf row) n) = record { number = refl; the-row = writer-left row n (writerOf row) h } in
       record {
-        kept = subst (Kept row row n) (refusing buf (writerOf row) w n e bs next h) k;
-        the-buf = keeping buf (writerOf row) w n e bs next h;
+        kept = subst (Kept row row n) (refusing buf (writerOf row) w n bs next e h) k;
+        the-buf = keeping buf (writerOf row) w n bs next e h;
       }
 
-  module _ (free : 0 ≡ orElse (unsound (length buf) (writerOf row)) w) where
+  module _ (free : 0 ≡ orElse (unsound (length buf) (writerOf row)) (orElse w (sizeWrong next (length bs)))) where
     placed : (f : Wrote → List ℕ) → ((p : ℕ) → f (W.To p) ≡ writerAfter row 0 (movedTo next p)) → f (W.Refused NO-ROOM) ≡ row → (r : Wrote) (row′ buf′ : List ℕ) (k : ℕ) → r ≡ wroteAt buf (writerOf row .place .0) bs → buf′ ≡ putAt buf (writerOf row .place .0) bs → k ≡ wroteNumber r → row′ ≡ f r → Made row row′ buf buf′ k (writerOf row) (call w bs next)
     unfolding settled writerAfter
     placed f m s r row′ buf′ k g b x y =
         record {
-          kept = subst (Kept row row′ k) (writing buf (writerOf row) w 0 free bs next refl) (by-lt (length buf) (at + length bs) short long);
-          the-buf = b ∙ putting buf (writerOf row) w 0 free bs next refl;
+          kept = subst (Kept row row′ k) (writing buf (writerOf row) w 0 bs next free refl) (by-lt (length buf) (at + length bs) short long);
+          the-buf = b ∙ putting buf (writerOf row) w 0 bs next free refl;
         }
       where
         at : ℕ
@@ -90,38 +92,65 @@ module _ (buf row : List ℕ) (w : ℕ) (bs : List ℕ) (next : State) where
             let q = wrote-to buf at bs h in
             subst Left q (record { number = x ∙ ap wroteNumber (g ∙ sym q); the-row = y ∙ ap f (g ∙ sym q) ∙ m (at + length bs) })
 
-  -- a call that writes nothing
-  noted : 0 ≡ orElse (unsound (length buf) (writerOf row)) w → (row′ : List ℕ) → row′ ≡ writerAfter row 0 (movedTo next (writerOf row .place .0)) → Made row row′ buf buf 0 (writerOf row) (call w [] next)
-  noted free row′ e =
-      let k : Kept row row′ 0 (written (movedTo next (writerOf row .place .0))) = record { number = refl; the-row = e } in
-      record {
-        kept = subst (Kept row row′ 0) (noting buf (writerOf row) w 0 free [] next refl) k;
-        the-buf = untouched buf (writerOf row) w 0 free [] next refl;
-      }
+-- a call that writes nothing
+noted : (buf row : List ℕ) (w : ℕ) (next : State) → 0 ≡ orElse (unsound (length buf) (writerOf row)) w → (row′ : List ℕ) → row′ ≡ writerAfter row 0 (movedTo next (writerOf row .place .0)) → Made row row′ buf buf 0 (writerOf row) (call w [] next)
+noted buf row w next free row′ e =
+    let k : Kept row row′ 0 (written (movedTo next (writerOf row .place .0))) = record { number = refl; the-row = e } in
+    record {
+      kept = subst (Kept row row′ 0) (noting buf (writerOf row) w 0 next free refl) k;
+      the-buf = untouched buf (writerOf row) w 0 next free refl;
+    }
 
--- behind the row's own test, which answered n; m is what the code found wrong with the arguments
+-- behind the row's own test, which answered n; m is what the code found wrong with the arguments, and then with the size
 module _ (buf row : List ℕ) (n : ℕ) (e : n ≡ orElse (unsound (length buf) (writerOf row)) (turn (writerOf row .pending .0))) where
   pub before : (wrong : ℕ) → (n ≡ 0 → ⊥) → n ≡ orElse (unsound (length buf) (writerOf row)) (inTurn (writerOf row) wrong)
   before wrong h = or-first n wrong h ∙ writer-order (length buf) row n e wrong
 
+  -- of what is out of turn, wrong and too large the first
+  in-order : (wrong size : ℕ) → orElse (unsound (length buf) (writerOf row)) (inTurn (writerOf row) (orElse wrong size)) ≡ orElse (unsound (length buf) (writerOf row)) (orElse (inTurn (writerOf row) wrong) size)
+  in-order wrong size = ap (orElse (unsound (length buf) (writerOf row))) (turn-over (writerOf row) wrong size)
+
   pub barred : (wrong : ℕ) (bs : List ℕ) (next : State) → (n ≡ 0 → ⊥) → Made row row buf buf n (writerOf row) (call (inTurn (writerOf row) wrong) bs next)
-  barred wrong bs next h = stopped buf row (inTurn (writerOf row) wrong) bs next n (before wrong h) h
+  barred wrong bs next h =
+      stopped buf row (inTurn (writerOf row) wrong) bs next n (before (orElse wrong (sizeWrong next (length bs))) h ∙ in-order wrong (sizeWrong next (length bs))) h
 
   module _ (h : n ≡ 0) where
     pub clear : Open row
     clear = writer-opens (length buf) row n e h
 
+    is : writerOf row ≡ writerIn row
+    is = writer-is row clear
+
     here : writerOf row .place .0 ≡ getD row 0 0
-    here = ap (λ (st : State). st .place .0) (writer-is row clear)
+    here = ap (λ (st : State). st .place .0) is
 
     pub behind : (wrong : ℕ) → wrong ≡ orElse (unsound (length buf) (writerOf row)) (inTurn (writerOf row) wrong)
     behind wrong = sym (or-second wrong) ∙ ap (λ (x : ℕ). orElse x wrong) (sym h) ∙ writer-order (length buf) row n e wrong
 
-    pub denied : (m wrong : ℕ) (bs : List ℕ) (next : State) → m ≡ wrong → (m ≡ 0 → ⊥) → Made row row buf buf m (writerOf row) (call (inTurn (writerOf row) wrong) bs next)
-    denied m wrong bs next d k = stopped buf row (inTurn (writerOf row) wrong) bs next m (d ∙ behind wrong) k
+    module _ (m wrong : ℕ) (bs : List ℕ) (next : State) (d : m ≡ orElse wrong (sizeWrong next (length bs))) where
+      reason : m ≡ orElse (unsound (length buf) (writerOf row)) (orElse (inTurn (writerOf row) wrong) (sizeWrong next (length bs)))
+      reason = d ∙ behind (orElse wrong (sizeWrong next (length bs))) ∙ in-order wrong (sizeWrong next (length bs))
 
-    free-of : (m wrong : ℕ) → m ≡ wrong → m ≡ 0 → 0 ≡ orElse (unsound (length buf) (writerOf row)) (inTurn (writerOf row) wrong)
-    free-of m wrong d z = sym z ∙ d ∙ behind wrong
+      pub denied : (m ≡ 0 → ⊥) → Made row row buf buf m (writerOf row) (call (inTurn (writerOf row) wrong) bs next)
+      denied k = stopped buf row (inTurn (writerOf row) wrong) bs next m reason k
+
+      free-of : m ≡ 0 → 0 ≡ orElse (unsound (length buf) (writerOf row)) (orElse (inTurn (writerOf row) wrong) (sizeWrong next (length bs)))
+      free-of z = sym z ∙ reason
+
+    -- of a call whose arguments can't be wrong m is the size's alone
+    module _ (m size : ℕ) (d : m ≡ sizeWrong (writerIn row) size) (bs : List ℕ) (l : size ≡ length bs) where
+      pub sized : m ≡ orElse 0 (sizeWrong (writerOf row) (length bs))
+      sized = rw (is, ← l) (d ∙ sym (or-second (sizeWrong (writerIn row) size)))
+
+      sized-head : (id : FieldId) → m ≡ orElse 0 (sizeWrong (headed (writerOf row) id) (length bs))
+      unfolding sizeWrong
+      sized-head id = sized
+
+      pub full : (m ≡ 0 → ⊥) → Made row row buf buf m (writerOf row) (call (inTurn (writerOf row) 0) bs (writerOf row))
+      full k = denied m 0 bs (writerOf row) sized k
+
+      pub full-head : (id : FieldId) → (m ≡ 0 → ⊥) → Made row row buf buf m (writerOf row) (call (inTurn (writerOf row) 0) bs (headed (writerOf row) id))
+      full-head id k = denied m 0 bs (headed (writerOf row) id) (sized-head id) k
 
     -- the bytes cs at the place
     module _ (at : ℕ) (a : at ≡ getD row 0 0) (cs bs : List ℕ) (c : cs ≡ bs) (r : Wrote) (g : r ≡ wroteAt buf at cs) (row′ buf′ : List ℕ) (k : ℕ) (b : buf′ ≡ putAt buf at cs) (x : k ≡ wroteNumber r) where
@@ -131,42 +160,61 @@ module _ (buf row : List ℕ) (n : ℕ) (e : n ≡ orElse (unsound (length buf) 
       left : buf′ ≡ putAt buf (writerOf row .place .0) bs
       left = rw (here, ← a, ← c) b
 
-      pub went-as : (m wrong : ℕ) → m ≡ wrong → m ≡ 0 → row′ ≡ wroteRow row r → Made row row′ buf buf′ k (writerOf row) (call (inTurn (writerOf row) wrong) bs (writerOf row))
+      pub went-as : (m wrong : ℕ) → m ≡ orElse wrong (sizeWrong (writerOf row) (length bs)) → m ≡ 0 → row′ ≡ wroteRow row r → Made row row′ buf buf′ k (writerOf row) (call (inTurn (writerOf row) wrong) bs (writerOf row))
       went-as m wrong d z y =
-          placed buf row (inTurn (writerOf row) wrong) bs (writerOf row) (free-of m wrong d z) (wroteRow row) (λ p. writer-moves row clear p) refl r row′ buf′ k told left x y
+          placed buf row (inTurn (writerOf row) wrong) bs (writerOf row) (free-of m wrong bs (writerOf row) d z) (wroteRow row) (λ p. writer-moves row clear p) refl r row′ buf′ k told left x y
 
-      -- a field's header, whose id is the last one from then on
-      pub went-headed : (id : ℤ) → SFits w16 id → row′ ≡ headedRow row (toZ w16 (ofZ w16 id)) r → Made row row′ buf buf′ k (writerOf row) (call (inTurn (writerOf row) 0) bs (headed (writerOf row) (record { 0 = id })))
-      went-headed id u y =
-          placed buf row (inTurn (writerOf row) 0) bs (headed (writerOf row) (record { 0 = id })) (behind 0) (headedRow row id) (λ p. writer-heads row clear p (record { 0 = id })) refl r row′ buf′ k told left x (rw (toZ-ofZ u) at y)
+      -- a message's header, from whose first byte it is counted
+      pub went-begun : (m wrong : ℕ) → m ≡ orElse wrong (sizeWrong (begunHere (writerOf row)) (length bs)) → m ≡ 0 → row′ ≡ begunRow row at r → Made row row′ buf buf′ k (writerOf row) (call (inTurn (writerOf row) wrong) bs (begunHere (writerOf row)))
+      went-begun m wrong d z y =
+          placed buf row (inTurn (writerOf row) wrong) bs (begunHere (writerOf row)) (free-of m wrong bs (begunHere (writerOf row)) d z) (begunRow row (getD row 0 0)) (λ p. writer-begins row clear p) refl r row′ buf′ k told left x (rw a at y)
 
-      pub went : row′ ≡ wroteRow row r → Made row row′ buf buf′ k (writerOf row) (call (inTurn (writerOf row) 0) bs (writerOf row))
-      went y = went-as 0 0 refl refl y
+      module _ (m size : ℕ) (d : m ≡ sizeWrong (writerIn row) size) (l : size ≡ length cs) (z : m ≡ 0) where
+        fits : size ≡ length bs
+        fits = l ∙ ap length c
+
+        -- a field's header, whose id is the last one from then on
+        pub went-headed : (id : ℤ) → SFits w16 id → row′ ≡ headedRow row (toZ w16 (ofZ w16 id)) r → Made row row′ buf buf′ k (writerOf row) (call (inTurn (writerOf row) 0) bs (headed (writerOf row) (record { 0 = id })))
+        went-headed id u y =
+            placed buf row (inTurn (writerOf row) 0) bs (headed (writerOf row) (record { 0 = id }))
+            (free-of m 0 bs (headed (writerOf row) (record { 0 = id })) (sized-head m size d bs fits (record { 0 = id })) z)
+            (headedRow row id) (λ p. writer-heads row clear p (record { 0 = id })) refl r row′ buf′ k told left x (rw (toZ-ofZ u) at y)
+
+        pub went : row′ ≡ wroteRow row r → Made row row′ buf buf′ k (writerOf row) (call (inTurn (writerOf row) 0) bs (writerOf row))
+        went y = went-as m 0 (sized m size d bs fits) z y
 
     -- a call that is refused for its arguments
     pub refuses : (why : ℕ) → Made row row buf buf why (writerOf row) (wrongCall (writerOf row) why)
-    refuses zero = noted buf row (inTurn (writerOf row) 0) [] (writerOf row) (behind 0) row (writer-stays row clear 0)
-    refuses (suc n) = denied (suc n) (suc n) [] (writerOf row) refl (λ q. omega arith)
+    refuses zero = noted buf row (inTurn (writerOf row) 0) (writerOf row) (behind 0) row (writer-stays row clear 0)
+    refuses (suc n) = denied (suc n) (suc n) [] (writerOf row) (sym (unsized (writerOf row) (suc n))) (λ q. omega arith)
 
-    -- the limits that the code tests against are the state's
-    limits-are : writerOf row .limits ≡ limitsOf row
-    limits-are = ap (λ (st : State). st .limits) (writer-is row clear)
+    -- what the code found against the row's limits and ceiling is so against the state's; a number may reach it through its bits, as y
+    module _ (m : ℕ) where
+      pub bytes-stop : (bs : List ℕ) → m ≡ orElse (lengthWrong (limitsOf row) bs) (sizeWrong (writerIn row) (length (stringBytes bs))) → m ≡ orElse (lengthWrong (writerOf row .limits) bs) (sizeWrong (writerOf row) (length (stringBytes bs)))
+      bytes-stop bs d = rw is d
 
-    module _ (lim : TConfiguration) (l : lim ≡ limitsOf row) (m : ℕ) where
-      pub length-limited : (bs : List ℕ) → m ≡ lengthWrong lim bs → m ≡ lengthWrong (writerOf row .limits) bs
-      length-limited bs d = rw (limits-are, ← l) d
+      pub string-stop : (bs : List ℕ) → m ≡ orElse (textWrong (limitsOf row) bs) (sizeWrong (writerIn row) (length (stringBytes bs))) → m ≡ orElse (textWrong (writerOf row .limits) bs) (sizeWrong (writerOf row) (length (stringBytes bs)))
+      string-stop bs d = rw is d
 
-      pub text-limited : (bs : List ℕ) → m ≡ textWrong lim bs → m ≡ textWrong (writerOf row .limits) bs
-      text-limited bs d = rw (limits-are, ← l) d
+      pub items-stop : (t : TType) (y z : ℤ) → m ≡ orElse (countWrong (limitsOf row) t t y) (sizeWrong (writerIn row) (length (itemsBytes t (above y)))) → y ≡ z → m ≡ orElse (countWrong (writerOf row .limits) t t z) (sizeWrong (writerOf row) (length (itemsBytes t (above z))))
+      items-stop t y z d f = rw (is, ← f) d
 
-      pub count-limited : (t u : TType) (y z : ℤ) → m ≡ countWrong lim t u y → y ≡ z → m ≡ countWrong (writerOf row .limits) t u z
-      count-limited t u y z d f = rw (limits-are, ← l, ← f) d
+      pub pairs-stop : (t u : TType) (y z : ℤ) → m ≡ orElse (countWrong (limitsOf row) t u y) (sizeWrong (writerIn row) (length (pairsBytes t u (above y)))) → y ≡ z → m ≡ orElse (countWrong (writerOf row .limits) t u z) (sizeWrong (writerOf row) (length (pairsBytes t u (above z))))
+      pairs-stop t u y z d f = rw (is, ← f) d
 
-pub ruleset plain-cases = (barred, went)
+      pub message-stop : (a : TMessageType) (y z : ℤ) (name : List ℕ) → m ≡ orElse (textWrong (limitsOf row) name) (sizeWrong (begunHere (writerIn row)) (2 + length (fewest (ofZ w32 y)) + length (fewest (length name)) + length name)) → y ≡ z → m ≡ orElse (textWrong (writerOf row .limits) name) (sizeWrong (begunHere (writerOf row)) (length (messageBytes a z name)))
+      message-stop a y z name d f =
+          rw is (d ∙ ap (λ (i : ℕ). orElse (textWrong (limitsOf row) name) (sizeWrong (begunHere (writerIn row)) i)) (message-size a y z name (2 + length (fewest (ofZ w32 y)) + length (fewest (length name))) refl f))
 
-pub ruleset int-cases = (barred, went, int-is, byte-is, wide, wide-fits, toZ-ofZ, sfits-of)
+-- the sizes that the code names
+pub int-sized : (n : ℕ) (y z : ℤ) → n ≡ zigzag y → y ≡ z → length (fewest n) ≡ length (intBytes z)
+int-sized n y z e f = ap length (int-is n y z e f)
 
-pub ruleset bytes-cases = (barred, denied, went-as, length-limited, text-limited)
+pub ruleset plain-cases = (barred, full, went, double-size)
+
+pub ruleset int-cases = (barred, full, went, int-is, int-sized, byte-is, wide, wide-fits, toZ-ofZ, sfits-of)
+
+pub ruleset bytes-cases = (barred, denied, went-as, bytes-stop, string-stop)
 
 -- types by number. Till the number is looked at the call is refused whatever it says
 module _ (buf row : List ℕ) (n : ℕ) (e : n ≡ orElse (unsound (length buf) (writerOf row)) (turn (writerOf row .pending .0))) (h : n ≡ 0 → ⊥) where
@@ -263,9 +311,9 @@ pub ruleset items-by = (items-back, toZ-ofZ, sfits-of)
 pub message-is : (m : TMessageType) (y z : ℤ) (name : List ℕ) → y ≡ z → messageBytes m y name ≡ messageBytes m z name
 message-is m y z name f = rw f
 
-pub ruleset items-cases = (items-by-barred, items-typed, items-untyped, refuses, denied, went-as, count-limited, items-is, toZ-ofZ, sfits-of)
+pub ruleset items-cases = (items-by-barred, items-typed, items-untyped, refuses, denied, went-as, items-stop, items-is, toZ-ofZ, sfits-of)
 
-pub ruleset message-cases = (message-by-barred, message-typed, message-untyped, refuses, denied, went-as, text-limited, message-is, toZ-ofZ, sfits-of)
+pub ruleset message-cases = (message-by-barred, message-typed, message-untyped, refuses, denied, went-begun, message-stop, message-is, toZ-ofZ, sfits-of)
 
 -- an empty map has no types: whatever numbers are given for them
 not-none : (z : ℤ) → (z ≡ pos 0 → ⊥) → isNone z ≡ false
@@ -286,9 +334,9 @@ module _ (z : ℤ) (f : SFits w32 z) where
 pub passes : (buf row : List ℕ) (n : ℕ) → n ≡ orElse (unsound (length buf) (writerOf row)) (turn (writerOf row .pending .0)) → n ≡ 0 → 0 ≡ orElse (unsound (length buf) (writerOf row)) (turn (writerOf row .pending .0))
 passes buf row n e h = sym h ∙ e
 
-pub ruleset pairs-cases = (values-untyped, values-typed, refuses, denied, went-as, count-limited, pairs-is, toZ-ofZ, sfits-of)
+pub ruleset pairs-cases = (values-untyped, values-typed, refuses, denied, went-as, pairs-stop, pairs-is, toZ-ofZ, sfits-of)
 
-pub ruleset map-cases = (pairs-by-barred, no-pairs, some-pairs, keys-untyped, keys-typed, passes, refuses, went, toZ-ofZ, sfits-of)
+pub ruleset map-cases = (pairs-by-barred, no-pairs, some-pairs, keys-untyped, keys-typed, passes, refuses, full, went, toZ-ofZ, sfits-of)
 
 -- fields, by the type's number k
 whole-code : (k : ℕ) (a : TType) → k ≡ typeCode a → k % 16 ≡ k
@@ -297,14 +345,14 @@ whole-code k a e = mod-eq-of-lt (rw e (code-below a))
 module _ (buf row : List ℕ) (n : ℕ) (e : n ≡ orElse (unsound (length buf) (writerOf row)) (turn (writerOf row .pending .0))) (h : n ≡ 0) (k : ℕ) where
   pub field-none : (id : FieldId) → k ≡ 0 → Made row row buf buf BAD-TYPE (writerOf row) (fieldBy (writerOf row) k id)
   unfolding fieldBy fieldCall typeByNumber fieldWrong typeCode
-  field-none id z = rw z (denied buf row n e h BAD-TYPE BAD-TYPE _ _ refl (λ q. omega arith))
+  field-none id z = rw z (denied buf row n e h BAD-TYPE BAD-TYPE _ _ (or-first BAD-TYPE _ (λ q. omega arith)) (λ q. omega arith))
 
   -- a bool's waits: c is its id's bits
   pub field-noted : (c m : ℕ) (y id : ℤ) (row′ : List ℕ) → k ≡ 1 → m ≡ getD row 1 0 → c ≡ ofZ w16 y → y ≡ id → row′ ≡ set row 1 (m + (c + 1) * 65536) → Made row row′ buf buf 0 (writerOf row) (fieldBy (writerOf row) k (record { 0 = id }))
   unfolding fieldBy fieldCall typeByNumber fieldWrong typeCode
   field-noted c m y id row′ z a d f g =
       rw z
-      (noted buf row (inTurn (writerOf row) 0) [] (awaiting (writerOf row) (record { 0 = id })) (behind buf row n e h 0) row′
+      (noted buf row (inTurn (writerOf row) 0) (awaiting (writerOf row) (record { 0 = id })) (behind buf row n e h 0) row′
       (rw (d, f) at g ∙ writer-awaits row (clear buf row n e h) m (record { 0 = id }) a))
 
   -- which has room above the last id
@@ -315,13 +363,16 @@ module _ (buf row : List ℕ) (n : ℕ) (e : n ≡ orElse (unsound (length buf) 
   pub header-is : (c : ℕ) (l y i id : ℤ) → l ≡ y → y ≡ lastIn (getD row 1 0) → i ≡ id → fieldBytes l i c ≡ fieldBytes (writerOf row .last .0) id c
   header-is c l y i id u q s = rw (writer-is row (clear buf row n e h), u, q, s)
 
+  pub header-sized : (c : ℕ) (l y i id : ℤ) → l ≡ y → y ≡ lastIn (getD row 1 0) → i ≡ id → length (fieldBytes l i c) ≡ length (fieldBytes (writerOf row .last .0) id c)
+  header-sized c l y i id u q s = ap length (header-is c l y i id u q s)
+
 pub field-typed : (row row′ buf buf′ : List ℕ) (r : ℕ) (st : State) (k : ℕ) (t : TypeRead) (a : TType) (id : ℤ) → t ≡ typeByNumber k → t ≡ R.Got a → (k ≡ 0 → ⊥) → (k ≡ 1 → ⊥) → Made row row′ buf buf′ r st (call (inTurn st 0) (fieldBytes (st .last .0) id (k % 16)) (headed st (record { 0 = id }))) → Made row row′ buf buf′ r st (fieldBy st k (record { 0 = id }))
 unfolding fieldBy fieldCall fieldWrong
 field-typed row row′ buf buf′ r st k t a id b f some other m =
     let c : k ≡ typeCode a = number-is k a (sym b ∙ f) in
     rw (← b, f, ← c, ne-eqb k 0 some, ne-eqb k 1 other) (rw (whole-code k a c) at m)
 
-pub ruleset field-cases = (field-by-barred, field-none, field-untyped, refuses, field-noted, field-typed, header-is, went-headed, waits-on, toZ-ofZ, sfits-of)
+pub ruleset field-cases = (field-by-barred, field-none, field-untyped, refuses, field-noted, field-typed, header-is, header-sized, full-head, went-headed, waits-on, toZ-ofZ, sfits-of)
 
 -- bools: nothing but the state stops them
 no-turn : (n u : ℕ) (a : AwaitedField) → n ≡ orElse u (turn a) → (n ≡ 0 → ⊥) → (n ≡ OUT-OF-TURN → ⊥) → n ≡ orElse u 0
@@ -330,79 +381,111 @@ no-turn n zero A.Nothing e h k = absurd (h e)
 no-turn n zero (A.Field id) e h k = absurd (k e)
 no-turn n (suc u) a e h k = let f = ne-eqb (suc u) 0 (λ q. omega arith) in rw f (rw f at e)
 
-sound-turn : (b : Bool) (x : ℕ) → OUT-OF-TURN ≡ orElse (cond b 0 BAD-STATE) x → 0 ≡ orElse (cond b 0 BAD-STATE) 0
+sound-turn : (b : Bool) (x : ℕ) → OUT-OF-TURN ≡ orElse (cond b 0 BAD-STATE) x → cond b 0 BAD-STATE ≡ 0
 unfolding orElse
 sound-turn true x e = refl
 sound-turn false x e = absurd (omega arith)
+
+-- what the state shows comes before the size
+or-later : (n u x : ℕ) → n ≡ orElse u 0 → (n ≡ 0 → ⊥) → orElse u 0 ≡ orElse u (orElse 0 x)
+unfolding orElse
+or-later n zero x f h = absurd (h f)
+or-later n (suc u) x f h = rw (ne-eqb (suc u) 0 (λ q. omega arith))
 
 whole-truth : (b : Bool) (c : ℕ) → c ≡ truthCode b → c % 16 ≡ c
 whole-truth b c e = mod-eq-of-lt (rw e (truth-below b))
 
 module _ (buf row : List ℕ) (n : ℕ) (e : n ≡ orElse (unsound (length buf) (writerOf row)) (turn (writerOf row .pending .0))) (b : Bool) where
   truth-barred : n ≡ orElse (unsound (length buf) (writerOf row)) 0 → (n ≡ 0 → ⊥) → (a : AwaitedField) → Made row row buf buf n (writerOf row) (truthCall (writerOf row) b a)
-  truth-barred f h A.Nothing = stopped buf row 0 _ _ n f h
-  truth-barred f h (A.Field id) = stopped buf row 0 _ _ n f h
+  truth-barred f h A.Nothing = stopped buf row 0 _ _ n (f ∙ or-later n (unsound (length buf) (writerOf row)) _ f h) h
+  truth-barred f h (A.Field id) = stopped buf row 0 _ _ n (f ∙ or-later n (unsound (length buf) (writerOf row)) _ f h) h
 
   pub bool-barred : (n ≡ 0 → ⊥) → (n ≡ OUT-OF-TURN → ⊥) → Made row row buf buf n (writerOf row) (boolCall (writerOf row) b)
   unfolding boolCall
   bool-barred h k = truth-barred (no-turn n _ (writerOf row .pending .0) e h k) h (writerOf row .pending .0)
 
-  module _ (at c : ℕ) (a : at ≡ getD row 0 0) (d : c ≡ truthCode b) (r : Wrote) (row′ buf′ : List ℕ) (k : ℕ) (x : k ≡ wroteNumber r) where
-    of-turn : {x y : AwaitedField} → x ≡ y → Made row row′ buf buf′ k (writerOf row) (truthCall (writerOf row) b x) → Made row row′ buf buf′ k (writerOf row) (truthCall (writerOf row) b y)
-    of-turn f m = subst (λ (w : AwaitedField). Made row row′ buf buf′ k (writerOf row) (truthCall (writerOf row) b w)) f m
+  of-turn : {row′ buf′ : List ℕ} {k : ℕ} {x y : AwaitedField} → x ≡ y → Made row row′ buf buf′ k (writerOf row) (truthCall (writerOf row) b x) → Made row row′ buf buf′ k (writerOf row) (truthCall (writerOf row) b y)
+  of-turn {row′} {buf′} {k} f m = subst (λ (w : AwaitedField). Made row row′ buf buf′ k (writerOf row) (truthCall (writerOf row) b w)) f m
 
-    pub bool-element : n ≡ 0 → r ≡ wroteAt buf at (c ∷ []) → buf′ ≡ putAt buf at (c ∷ []) → row′ ≡ wroteRow row r → Made row row′ buf buf′ k (writerOf row) (boolCall (writerOf row) b)
-    unfolding boolCall
-    bool-element h g f y =
-        let open-row = writer-opens (length buf) row n e h in
-        let free : writerOf row .pending .0 ≡ A.Nothing = ap (λ (st : State). st .pending .0) (writer-is row open-row) ∙ writer-free row open-row in
-        let place : writerOf row .place .0 ≡ getD row 0 0 = ap (λ (st : State). st .place .0) (writer-is row open-row) in
+  -- an element: m is what its size shows
+  module _ (h : n ≡ 0) (m : ℕ) (d : m ≡ sizeWrong (writerIn row) (1 + 0)) where
+    free-row : Open row
+    free-row = writer-opens (length buf) row n e h
+
+    none-waits : writerOf row .pending .0 ≡ A.Nothing
+    none-waits = ap (λ (st : State). st .pending .0) (writer-is row free-row) ∙ writer-free row free-row
+
+    why-not : m ≡ orElse (unsound (length buf) (writerOf row)) (orElse 0 (sizeWrong (writerOf row) (length (truthCode b ∷ []))))
+    unfolding orElse
+    why-not =
         let none = both-none (unsound (length buf) (writerOf row)) (turn (writerOf row .pending .0)) (sym e ∙ h) .0 in
-        of-turn (sym free)
-        (placed buf row 0 (truthCode b ∷ []) (writerOf row) (sym (ap (λ (u : ℕ). orElse u 0) none ∙ or-second 0)) (wroteRow row) (λ p. writer-moves row open-row p) refl r row′ buf′ k
-        (rw (place, ← a, ← d) g) (rw (place, ← a, ← d) f) x y)
+        rw (none, writer-is row free-row) d
 
-    -- the field that waits: z is its id, which the code finds above the last one's bits and which passes through its bits, as i
-    module _ (h : n ≡ OUT-OF-TURN) where
-      waiting : Waiting writerTop row
-      waiting = held writerTop (length buf) row (writer-gate (length buf) row ∙ sym e ∙ h)
+    pub bool-full : (m ≡ 0 → ⊥) → Made row row buf buf m (writerOf row) (boolCall (writerOf row) b)
+    unfolding boolCall
+    bool-full k = of-turn (sym none-waits) (stopped buf row 0 (truthCode b ∷ []) (writerOf row) m why-not k)
 
-      is : writerOf row ≡ writerIn row
-      unfolding writerOf
-      is = rw (eq-eqb (length row) 5 (waiting .five), lt-ltb (getD row 1 0) 4295032832 (waiting .below))
+    pub bool-element : (at c : ℕ) → at ≡ getD row 0 0 → c ≡ truthCode b → (r : Wrote) (row′ buf′ : List ℕ) (k : ℕ) → k ≡ wroteNumber r → m ≡ 0 → r ≡ wroteAt buf at (c ∷ []) → buf′ ≡ putAt buf at (c ∷ []) → row′ ≡ wroteRow row r → Made row row′ buf buf′ k (writerOf row) (boolCall (writerOf row) b)
+    unfolding boolCall
+    bool-element at c a v r row′ buf′ k x z g f y =
+        let place : writerOf row .place .0 ≡ getD row 0 0 = ap (λ (st : State). st .place .0) (writer-is row free-row) in
+        of-turn (sym none-waits)
+        (placed buf row 0 (truthCode b ∷ []) (writerOf row) (sym z ∙ why-not) (wroteRow row) (λ p. writer-moves row free-row p) refl r row′ buf′ k
+        (rw (place, ← a, ← v) g) (rw (place, ← a, ← v) f) x y)
 
-      place : writerOf row .place .0 ≡ getD row 0 0
-      place = ap (λ (st : State). st .place .0) is
+  -- the field that waits: z is its id, which the code finds above the last one's bits and which passes through its bits, as i
+  module _ (h : n ≡ OUT-OF-TURN) where
+    waiting : Waiting writerTop row
+    waiting = held writerTop (length buf) row (writer-gate (length buf) row ∙ sym e ∙ h)
 
-      free : 0 ≡ orElse (unsound (length buf) (writerOf row)) 0
-      unfolding unsound
-      free = sound-turn (inRange (writerOf row .limits) && leb (writerOf row .place .0) (length buf) && leb (writerOf row .depth) (writerOf row .limits .depth)) _ (sym h ∙ e)
+    is-held : writerOf row ≡ writerIn row
+    unfolding writerOf
+    is-held = rw (eq-eqb (length row) 6 (waiting .six), lt-ltb (getD row 1 0) 4295032832 (waiting .below))
 
-      heads : (p : ℕ) (id : FieldId) → set (set row 0 p) 1 (ofZ w16 (id .0)) ≡ writerAfter row 0 (movedTo (headed (writerOf row) id) p)
-      unfolding writerAfter fieldNo
-      heads p id =
-          let plain : ofZ w16 (id .0) ≡ ofZ w16 (id .0) + 0 * 65536 = omega arith in
-          rw is (ap (set (set row 0 p) 1) plain ∙ row-headed row (waiting .five) p 0 (id .0))
+    sound-row : unsound (length buf) (writerOf row) ≡ 0
+    unfolding unsound
+    sound-row = sound-turn (inRange (writerOf row .limits) && leb (writerOf row .place .0) (length buf) && leb (writerOf row .depth) (writerOf row .limits .depth) && leb (writerOf row .begin .0) (writerOf row .place .0) && leb (writerOf row .place .0) (cutOf (writerOf row))) _ (sym h ∙ e)
 
-      module _ (m : ℕ) (o : m ≡ getD row 1 0) (l y i z : ℤ) (q : z ≡ lastIn (m / 65536 + 65535)) (w : l ≡ y) (s : y ≡ lastIn (getD row 1 0)) (u : i ≡ z) (v : SFits w16 z) where
-        awaits : writerOf row .pending .0 ≡ A.Field (record { 0 = z })
-        unfolding fieldOf
-        awaits =
-            let some : (getD row 1 0 / 65536 ≡ 0 → ⊥) = λ f. omega (arith, waiting .some) in
-            let bits : (m / 65536 + 65535) % 65536 ≡ getD row 1 0 / 65536 - 1 = omega (arith, waiting .some, waiting .below) in
-            rw (is, ne-eqb (getD row 1 0 / 65536) 0 some, q, bits)
+    heads : (p : ℕ) (id : FieldId) → set (set row 0 p) 1 (ofZ w16 (id .0)) ≡ writerAfter row 0 (movedTo (headed (writerOf row) id) p)
+    unfolding writerAfter fieldNo
+    heads p id =
+        let plain : ofZ w16 (id .0) ≡ ofZ w16 (id .0) + 0 * 65536 = omega arith in
+        rw is-held (ap (set (set row 0 p) 1) plain ∙ row-headed row (waiting .six) p 0 (id .0))
 
-        bytes : fieldBytes l i (c % 16) ≡ fieldBytes (writerOf row .last .0) z (truthCode b)
-        bytes = rw (is, w, s, u, whole-truth b c d, d)
+    module _ (t : ℕ) (o : t ≡ getD row 1 0) (l y i z : ℤ) (q : z ≡ lastIn (t / 65536 + 65535)) (w : l ≡ y) (s : y ≡ lastIn (getD row 1 0)) (u : i ≡ z) (c : ℕ) (v : c ≡ truthCode b) (m : ℕ) (d : m ≡ sizeWrong (writerIn row) (length (fieldBytes l i (c % 16)))) where
+      awaits : writerOf row .pending .0 ≡ A.Field (record { 0 = z })
+      unfolding fieldOf
+      awaits =
+          let some : (getD row 1 0 / 65536 ≡ 0 → ⊥) = λ f. omega (arith, waiting .some) in
+          let bits : (t / 65536 + 65535) % 65536 ≡ getD row 1 0 / 65536 - 1 = omega (arith, waiting .some, waiting .below) in
+          rw (is-held, ne-eqb (getD row 1 0 / 65536) 0 some, q, bits)
 
-        pub bool-headed : r ≡ wroteAt buf at (fieldBytes l i (c % 16)) → buf′ ≡ putAt buf at (fieldBytes l i (c % 16)) → row′ ≡ headedRow row (toZ w16 (ofZ w16 z)) r → Made row row′ buf buf′ k (writerOf row) (boolCall (writerOf row) b)
-        unfolding boolCall
-        bool-headed g f g′ =
-            of-turn (sym awaits)
-            (placed buf row 0 (fieldBytes (writerOf row .last .0) z (truthCode b)) (headed (writerOf row) (record { 0 = z })) free (headedRow row z) (λ p. heads p (record { 0 = z })) refl r row′ buf′ k
-            (rw (← bytes, place, ← a) g) (rw (← bytes, place, ← a) f) x (rw (toZ-ofZ v) at g′))
+      bytes : fieldBytes l i (c % 16) ≡ fieldBytes (writerOf row .last .0) z (truthCode b)
+      bytes = rw (is-held, w, s, u, whole-truth b c v, v)
+
+      why-head : m ≡ orElse (unsound (length buf) (writerOf row)) (orElse 0 (sizeWrong (headed (writerOf row) (record { 0 = z })) (length (fieldBytes (writerOf row .last .0) z (truthCode b)))))
+      unfolding orElse sizeWrong
+      why-head = rw (sound-row, ← bytes, is-held) d
+
+      pub head-full : (m ≡ 0 → ⊥) → Made row row buf buf m (writerOf row) (boolCall (writerOf row) b)
+      unfolding boolCall
+      head-full k = of-turn (sym awaits) (stopped buf row 0 (fieldBytes (writerOf row .last .0) z (truthCode b)) (headed (writerOf row) (record { 0 = z })) m why-head k)
+
+      pub bool-headed : (at : ℕ) → at ≡ getD row 0 0 → (cs : List ℕ) (r : Wrote) → r ≡ wroteAt buf at cs → (row′ buf′ : List ℕ) (k : ℕ) → k ≡ wroteNumber r → buf′ ≡ putAt buf at cs → cs ≡ fieldBytes l i (c % 16) → m ≡ 0 → row′ ≡ headedRow row (toZ w16 (ofZ w16 z)) r → SFits w16 z → Made row row′ buf buf′ k (writerOf row) (boolCall (writerOf row) b)
+      unfolding boolCall
+      bool-headed at a cs r g row′ buf′ k x f same none g′ fit =
+          let place : writerOf row .place .0 ≡ getD row 0 0 = ap (λ (st : State). st .place .0) is-held in
+          of-turn (sym awaits)
+          (placed buf row 0 (fieldBytes (writerOf row .last .0) z (truthCode b)) (headed (writerOf row) (record { 0 = z })) (sym none ∙ why-head) (headedRow row z) (λ p. heads p (record { 0 = z })) refl r row′ buf′ k
+          (rw (← bytes, ← same, place, ← a) g) (rw (← bytes, ← same, place, ← a) f) x (rw (toZ-ofZ fit) at g′))
+
+-- the test of a bool that waits, for the inner call
+pub waits-so : (buf row : List ℕ) (n : ℕ) → n ≡ orElse (unsound (length buf) (writerOf row)) (turn (writerOf row .pending .0)) → n ≡ OUT-OF-TURN → OUT-OF-TURN ≡ orElse (unsound (length buf) (writerOf row)) (turn (writerOf row .pending .0))
+waits-so buf row n e h = sym h ∙ e
 
 pub awaited-fits : (m : ℕ) → m < 2 ^ 64 → Fits w64 (m / 65536 + 65535)
 awaited-fits m h = record { fits = omega arith }
 
-pub ruleset bool-cases = (bool-barred, bool-element, bool-headed, awaited-fits, toZ-ofZ, sfits-of)
+pub ruleset bool-cases = (bool-barred, bool-full, bool-element, waits-so)
+
+pub ruleset waiting-cases = (head-full, bool-headed, awaited-fits, toZ-ofZ, sfits-of)

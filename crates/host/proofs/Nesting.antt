@@ -22,11 +22,12 @@ use Rattle.input.specs.Answers.{asDone}
 use Rattle.input.specs.Calls.{structBegin, structEnd}
 use Rattle.input.specs.declared.ReadDone.{ReadDone}
 use Rattle.output.specs.State as O
-use Rattle.output.specs.Calls.{call, leaves, beginWrong, endWrong}
+use Rattle.output.specs.Calls.{call, sizeWrong, whyNot, leaves, beginWrong, endWrong}
 use Rattle.output.proofs.Checks as W
+use Rattle.output.proofs.Checks.{unsized}
 use Rattle.output.proofs.Cases.{refusing, noting}
 use Rattle.input.proofs.Cases.{begin-stopped, begin-deep, begin-well, end-stopped, end-top, end-well}
-use Rattle.rows.specs.Row.{lastIn, noLimits, readerOf, readerAfter, writerOf}
+use Rattle.rows.specs.Row.{lastIn, limitsOf, noLimits, readerOf, readerAfter, writerOf}
 use Rattle.rows.specs.Structs.{skipBy, structReader, structWriter, beginWrites, beginLeaves, endWrites, endLeaves, BegunRead, EndedRead, BegunWrite, EndedWrite}
 use Rattle.rows.proofs.Cases.{reader-left, writer-left}
 use Rattle.rows.proofs.Gate.{Open, reader-opens, reader-is, reader-stays, reader-enters, reader-leaves, writer-opens, writer-is, writer-enters, writer-leaves}
@@ -86,7 +87,7 @@ module _ (s row : List ℕ) (ids : List ℤ) where
       depth-is : readerOf row .depth ≡ d
       depth-is = rw (reader-is row clear) (sym f)
 
-      module _ (m : ℕ) (g : m ≡ getD row 3 0) where
+      module _ (m : ℕ) (g : m ≡ limitsOf row .depth) where
         most-is : readerOf row .limits .depth ≡ m
         most-is = rw (reader-is row clear) (sym g)
 
@@ -120,18 +121,22 @@ none-written len wrong = refl
 
 module _ (buf row : List ℕ) (ids : List ℤ) where
   module _ (st : O.State) (e : structWriter row ids ≡ st) (n : ℕ) (h : n ≡ 0 → ⊥) where
+    -- no byte is no size
+    unasked : (m wrong : ℕ) (next : O.State) → m ≡ O.orElse (O.unsound (length buf) st) wrong → m ≡ O.orElse (O.unsound (length buf) st) (O.orElse wrong (sizeWrong next (length {A = ℕ} [])))
+    unasked m wrong next f = f ∙ ap (O.orElse (O.unsound (length buf) st)) (sym (unsized next wrong))
+
     module _ (f : n ≡ O.orElse (O.unsound (length buf) st) (O.inTurn st (beginWrong st))) where
       begin-stops : BegunWrite row row ids ids n (structWriter row ids) (beginWrites buf (structWriter row ids))
       unfolding beginWrites
       begin-stops =
-          rw (e, ← (refusing buf st (O.inTurn st (beginWrong st)) n f [] (O.entered st) h))
+          rw (e, ← (refusing buf st (O.inTurn st (beginWrong st)) n [] (O.entered st) (unasked n (O.inTurn st (beginWrong st)) (O.entered st) f) h))
           (record { kept = record { number = refl; the-row = writer-left row n st h }; the-ids = refl })
 
     module _ (f : n ≡ O.orElse (O.unsound (length buf) st) (O.inTurn st (endWrong st))) where
       end-stops : EndedWrite row row ids n (endWrites buf (structWriter row ids))
       unfolding endWrites
       end-stops =
-          rw (e, ← (refusing buf st (O.inTurn st (endWrong st)) n f [] (O.ended st) h))
+          rw (e, ← (refusing buf st (O.inTurn st (endWrong st)) n [] (O.ended st) (unasked n (O.inTurn st (endWrong st)) (O.ended st) f) h))
           (record { number = refl; the-row = writer-left row n st h })
 
   module _ (h : length ids ≡ 64 → ⊥) where
@@ -166,7 +171,7 @@ module _ (buf row : List ℕ) (ids : List ℤ) where
       deep-is : writerOf row .depth ≡ d
       deep-is = rw (writer-is row open-row) (sym f)
 
-      module _ (m : ℕ) (g : m ≡ getD row 3 0) where
+      module _ (m : ℕ) (g : m ≡ limitsOf row .depth) where
         limit-is : writerOf row .limits .depth ≡ m
         limit-is = rw (writer-is row open-row) (sym g)
 
@@ -188,7 +193,7 @@ module _ (buf row : List ℕ) (ids : List ℤ) where
           unfolding beginWrites
           begun-inner y z row′ row″ ids′ a b c p q =
               let last-is : y ≡ writerOf row .last .0 = rw (writer-is row open-row) (b ∙ a) in
-              rw (within, ← (noting buf (writerOf row) (O.inTurn (writerOf row) (beginWrong (writerOf row))) 0 begins [] (O.entered (writerOf row)) refl))
+              rw (within, ← (noting buf (writerOf row) (O.inTurn (writerOf row) (beginWrong (writerOf row))) 0 (O.entered (writerOf row)) begins refl))
               (record {
                 kept = record { number = refl; the-row = (rw p at q) ∙ writer-enters row open-row d f };
                 the-ids = rw (deep-is, ← last-is) c;
@@ -212,7 +217,7 @@ module _ (buf row : List ℕ) (ids : List ℤ) where
         unfolding endWrites
         ended-inner y z n row′ row″ a b c p q =
             let id-is : y ≡ getD ids (writerOf row .depth - 1) (pos 0) = rw deep-is (c ∙ a) in
-            rw (within, ← (noting buf (writerOf row) (O.inTurn (writerOf row) (endWrong (writerOf row))) 0 ends [] (O.ended (writerOf row)) refl))
+            rw (within, ← (noting buf (writerOf row) (O.inTurn (writerOf row) (endWrong (writerOf row))) 0 (O.ended (writerOf row)) ends refl))
             (record { number = refl; the-row = (rw p at q) ∙ writer-leaves row open-row d n (getD ids (writerOf row .depth - 1) (pos 0)) f (b ∙ ap (ofZ w16) id-is) })
 
 pub ruleset structs-begun = (unbegun-no-ids, unbegun-gated, unbegun-deep, begun-inner, toZ-ofZ, sfits-of)
@@ -223,7 +228,7 @@ pub ruleset structs-ended = (unended-no-ids, unended-gated, unended-top, ended-i
 module _ (buf : List ℕ) (st : O.State) where
   unwritten : (wrong : ℕ) (next : O.State) → buf ≡ leaves buf st (call wrong [] next)
   unfolding leaves putAt
-  unwritten wrong next = go (eqb (O.orElse (O.unsound (length buf) st) wrong) 0) (ltb (length buf) (st .place .0 + length {A = ℕ} []))
+  unwritten wrong next = go (eqb (whyNot buf st (call wrong [] next)) 0) (ltb (length buf) (st .place .0 + length {A = ℕ} []))
     where
       go : (b c : Bool) → buf ≡ cond b (cond c buf buf) buf
       go true true = refl

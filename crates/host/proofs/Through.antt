@@ -2,12 +2,12 @@
 use mathlib.Core.Path.{_≡_, refl, sym, ap, _∙_}
 use mathlib.Core.Bool.{Bool, true, false, cond}
 use mathlib.Core.List.{List}
-use Prim.Native.Nat.{ℕ, _/_, _%_}
+use Prim.Native.Nat.{ℕ, _+_, _-_, _/_, _%_, _≤_, min}
 use native.Mathlib.Omega.{arith}
 use borrow.Author.Needs.{sfits-of}
-use lib.Dec.{eqb}
+use lib.Dec.{eqb, ltb}
 use lib.IntN.{ℤ, pos}
-use lib.ListN.{length, getD, set}
+use lib.ListN.{length, getD, set, take}
 use mir.Facts.{toZ-ofZ}
 use Rattle.types.specs.Codes.{typeCode, messageCode, truthCode}
 use Rattle.types.specs.Refusals.{OUT-OF-TURN, BAD-STATE}
@@ -19,6 +19,7 @@ use Rattle.types.specs.declared.TMessageType.{TMessageType}
 use Rattle.types.specs.declared.TType.{TType}
 use Rattle.types.specs.declared.TType.the-variants as T
 use Rattle.heads.specs.Answers.{place, idOf, int8At, int16At, int32At, int64At, doubleAt, truthAt, uuidAt, binaryAt, textAt, itemsHeadAt, pairsHeadAt, fieldAt, messageAt}
+use Rattle.heads.specs.Reader.{missing}
 use Rattle.heads.specs.declared.BoolRead.{BoolRead}
 use Rattle.heads.specs.declared.BoolRead.the-variants as hB
 use Rattle.heads.specs.declared.I8Read.{I8Read}
@@ -61,64 +62,157 @@ use Rattle.input.specs.declared.ReadMap.{ReadMap}
 use Rattle.input.specs.declared.ReadField.{ReadField}
 use Rattle.input.specs.declared.ReadMessage.{ReadMessage}
 use Rattle.input.specs.declared.ReadDone.{ReadDone}
+use Rattle.input.proofs.Gate.{Sound, passes}
 use Rattle.input.proofs.Cases as each
-use Rattle.input.proofs.Cases.{i8-stopped, i8-got, i8-no, i16-stopped, i16-got, i16-no, i32-stopped, i32-got, i32-no, i64-stopped, i64-got, i64-no, double-stopped, double-got, double-no, uuid-stopped, uuid-got, uuid-no, bytes-stopped, bytes-got, bytes-no, string-stopped, string-got, string-no, list-stopped, list-got, list-no, set-is, map-stopped, map-got, map-no, field-stopped, field-stop, field-bool, field-value, field-no, message-stopped, message-got, message-no}
-use Rattle.rows.specs.Row.{lastIn, turnOf, limitsOf, readerOf, readerAfter, awaitedNo}
+use Rattle.input.proofs.Cases.{cut-inside, cut-counts, i8-stopped, i16-stopped, i32-stopped, i64-stopped, double-stopped, uuid-stopped, bytes-stopped, string-stopped, list-stopped, set-is, map-stopped, field-stopped, message-stopped}
+use Rattle.output.specs.State.{leftOf}
+use Rattle.rows.specs.Row.{lastIn, turnOf, limitsOf, readerIn, writerIn, readerOf, readerAfter, awaitedNo}
 use Rattle.rows.specs.Reads.{ToldBool, ToldI8, ToldI16, ToldI32, ToldI64, ToldDouble, ToldPart, ToldList, ToldMap, ToldField, ToldMessage, ToldDone}
 use Rattle.rows.proofs.Cases.{reader-left}
-use Rattle.rows.proofs.Gate.{Open, reader-opens, reader-holds, reader-is, reader-free, reader-moves, reader-stays, reader-lasts, reader-awaits, reader-takes, reader-truth}
+use Rattle.rows.proofs.Gate.{Open, reader-opens, reader-holds, reader-is, reader-free, reader-moves, reader-stays, reader-begins, reader-lasts, reader-awaits, reader-takes, reader-truth}
 
--- what is read at the row's place is read at the state's
-module _ (s row : List ℕ) (clear : Open row) (at : ℕ) (p : at ≡ getD row 0 0) where
-  here : at ≡ readerOf row .place .0
-  here = rw (reader-is row clear) p
+-- what is read at the row's place, up to its cut, is read at the state's, up to the state's
+module _ (s row : List ℕ) (num : ℕ) (e : num ≡ I.gate (length s) (readerOf row)) (h : num ≡ 0) (end : ℕ) where
+  is : readerOf row ≡ readerIn row
+  is = reader-is row (reader-opens (length s) row num e h)
 
-  pub bool-at : (r : BoolRead) → r ≡ truthAt s at → r ≡ truthAt s (readerOf row .place .0)
-  bool-at r e = e ∙ ap (truthAt s) here
+  sound-of : Sound (length s) (readerOf row)
+  sound-of = passes (length s) (readerOf row) num e h
 
-  pub i8-at : (r : I8Read) → r ≡ int8At s at → r ≡ int8At s (readerOf row .place .0)
-  i8-at r e = e ∙ ap (int8At s) here
+  module _ (o : end ≡ getD row 0 0 + min (leftOf (writerIn row)) (length s - getD row 0 0)) where
+    cut : end ≡ min (I.cutOf (readerOf row)) (length s)
+    cut =
+        let k : Sound (length s) (readerIn row) = rw is at sound-of in
+        rw is (omega (arith, o, k .here, k .after, k .before))
 
-  pub i16-at : (r : I16Read) → r ≡ int16At s at → r ≡ int16At s (readerOf row .place .0)
-  i16-at r e = e ∙ ap (int16At s) here
+    pub inside : end ≤ length s
+    inside = cut-inside end (I.cutOf (readerOf row)) (length s) cut
 
-  pub i32-at : (r : I32Read) → r ≡ int32At s at → r ≡ int32At s (readerOf row .place .0)
-  i32-at r e = e ∙ ap (int32At s) here
+    pub counts : end ≡ length (take end s)
+    counts = cut-counts s end (I.cutOf (readerOf row)) cut
 
-  pub i64-at : (r : I64Read) → r ≡ int64At s at → r ≡ int64At s (readerOf row .place .0)
-  i64-at r e = e ∙ ap (int64At s) here
+    module _ (at : ℕ) (p : at ≡ getD row 0 0) where
+      here : at ≡ readerOf row .place .0
+      here = rw is p
 
-  pub double-at : (r : DoubleRead) → r ≡ doubleAt s at → r ≡ doubleAt s (readerOf row .place .0)
-  double-at r e = e ∙ ap (doubleAt s) here
+      module _ (r : I8Read) (f : r ≡ int8At (take end s) at) where
+        pub i8-got : (z : ℤ) (q : Place) → r ≡ h8.Got z q → asI8 (answers z (I.movedTo (readerOf row) q)) ≡ call.readI8 s (readerOf row)
+        i8-got z q g = each.i8-got s (readerOf row) num e h end cut r (f ∙ ap (int8At (take end s)) here) z q g
 
-  pub uuid-at : (r : PartRead) → r ≡ uuidAt s at → r ≡ uuidAt s (readerOf row .place .0)
-  uuid-at r e = e ∙ ap (uuidAt s) here
+        pub i8-no : (why n : ℕ) → r ≡ h8.Refused why → n ≡ missing (ltb end (length s)) why → asI8 (declines n (readerOf row)) ≡ call.readI8 s (readerOf row)
+        i8-no why n g k = each.i8-no s (readerOf row) num e h end cut r (f ∙ ap (int8At (take end s)) here) why n g k
 
-  module _ (lim : TConfiguration) (q : lim ≡ limitsOf row) where
-    within : lim ≡ readerOf row .limits
-    within = rw (reader-is row clear) q
+      module _ (r : I16Read) (f : r ≡ int16At (take end s) at) where
+        pub i16-got : (z : ℤ) (q : Place) → r ≡ h16.Got z q → asI16 (answers z (I.movedTo (readerOf row) q)) ≡ call.readI16 s (readerOf row)
+        i16-got z q g = each.i16-got s (readerOf row) num e h end cut r (f ∙ ap (int16At (take end s)) here) z q g
 
-    pub bytes-at : (r : PartRead) → r ≡ binaryAt s lim at → r ≡ binaryAt s (readerOf row .limits) (readerOf row .place .0)
-    bytes-at r e = rw (← within, ← here) e
+        pub i16-no : (why n : ℕ) → r ≡ h16.Refused why → n ≡ missing (ltb end (length s)) why → asI16 (declines n (readerOf row)) ≡ call.readI16 s (readerOf row)
+        i16-no why n g k = each.i16-no s (readerOf row) num e h end cut r (f ∙ ap (int16At (take end s)) here) why n g k
 
-    pub string-at : (r : PartRead) → r ≡ textAt s lim at → r ≡ textAt s (readerOf row .limits) (readerOf row .place .0)
-    string-at r e = rw (← within, ← here) e
+      module _ (r : I32Read) (f : r ≡ int32At (take end s) at) where
+        pub i32-got : (z : ℤ) (q : Place) → r ≡ h32.Got z q → asI32 (answers z (I.movedTo (readerOf row) q)) ≡ call.readI32 s (readerOf row)
+        i32-got z q g = each.i32-got s (readerOf row) num e h end cut r (f ∙ ap (int32At (take end s)) here) z q g
 
-    pub list-at : (r : ListHead) → r ≡ itemsHeadAt s lim at → r ≡ itemsHeadAt s (readerOf row .limits) (readerOf row .place .0)
-    list-at r e = rw (← within, ← here) e
+        pub i32-no : (why n : ℕ) → r ≡ h32.Refused why → n ≡ missing (ltb end (length s)) why → asI32 (declines n (readerOf row)) ≡ call.readI32 s (readerOf row)
+        i32-no why n g k = each.i32-no s (readerOf row) num e h end cut r (f ∙ ap (int32At (take end s)) here) why n g k
 
-    pub map-at : (r : MapHead) → r ≡ pairsHeadAt s lim at → r ≡ pairsHeadAt s (readerOf row .limits) (readerOf row .place .0)
-    map-at r e = rw (← within, ← here) e
+      module _ (r : I64Read) (f : r ≡ int64At (take end s) at) where
+        pub i64-got : (z : ℤ) (q : Place) → r ≡ h64.Got z q → asI64 (answers z (I.movedTo (readerOf row) q)) ≡ call.readI64 s (readerOf row)
+        i64-got z q g = each.i64-got s (readerOf row) num e h end cut r (f ∙ ap (int64At (take end s)) here) z q g
 
-    pub message-at : (r : MessageHead) → r ≡ messageAt s lim at → r ≡ messageAt s (readerOf row .limits) (readerOf row .place .0)
-    message-at r e = rw (← within, ← here) e
+        pub i64-no : (why n : ℕ) → r ≡ h64.Refused why → n ≡ missing (ltb end (length s)) why → asI64 (declines n (readerOf row)) ≡ call.readI64 s (readerOf row)
+        i64-no why n g k = each.i64-no s (readerOf row) num e h end cut r (f ∙ ap (int64At (take end s)) here) why n g k
 
-module _ (s row : List ℕ) where
-  pub field-found : (y z : ℤ) (at : ℕ) (r : FieldHead) → r ≡ fieldAt s y at → y ≡ z → z ≡ lastIn (getD row 1 0) → at ≡ getD row 0 0 → r ≡ fieldAt s (lastIn (getD row 1 0)) (getD row 0 0)
-  field-found y z at r e f g p = rw (← g, ← f, ← p) e
+      module _ (r : DoubleRead) (f : r ≡ doubleAt (take end s) at) where
+        pub double-got : (z : ℕ) (q : Place) → r ≡ hD.Got z q → asDouble (answers z (I.movedTo (readerOf row) q)) ≡ call.readDouble s (readerOf row)
+        double-got z q g = each.double-got s (readerOf row) num e h end cut r (f ∙ ap (doubleAt (take end s)) here) z q g
 
-  pub field-at : (r : FieldHead) → Open row → r ≡ fieldAt s (lastIn (getD row 1 0)) (getD row 0 0) → r ≡ fieldAt s (readerOf row .last .0) (readerOf row .place .0)
-  field-at r clear e = rw (reader-is row clear) e
+        pub double-no : (why n : ℕ) → r ≡ hD.Refused why → n ≡ missing (ltb end (length s)) why → asDouble (declines n (readerOf row)) ≡ call.readDouble s (readerOf row)
+        double-no why n g k = each.double-no s (readerOf row) num e h end cut r (f ∙ ap (doubleAt (take end s)) here) why n g k
+
+      module _ (r : PartRead) (f : r ≡ uuidAt (take end s) at) where
+        pub uuid-got : (a q : Place) → r ≡ hP.Got a q → record { answer = P.Got a q; state = I.movedTo (readerOf row) q } ≡ call.readUuid s (readerOf row)
+        uuid-got a q g = each.uuid-got s (readerOf row) num e h end cut r (f ∙ ap (uuidAt (take end s)) here) a q g
+
+        pub uuid-no : (why n : ℕ) → r ≡ hP.Refused why → n ≡ missing (ltb end (length s)) why → asPart (declines n (readerOf row)) ≡ call.readUuid s (readerOf row)
+        uuid-no why n g k = each.uuid-no s (readerOf row) num e h end cut r (f ∙ ap (uuidAt (take end s)) here) why n g k
+
+      module _ (lim : TConfiguration) (q : lim ≡ limitsOf row) where
+        within : lim ≡ readerOf row .limits
+        within = rw is q
+
+        module _ (r : PartRead) (f : r ≡ binaryAt (take end s) lim at) where
+          bytes-at : r ≡ binaryAt (take end s) (readerOf row .limits) (readerOf row .place .0)
+          bytes-at = rw (← within, ← here) f
+
+          pub bytes-got : (a z : Place) → r ≡ hP.Got a z → record { answer = P.Got a z; state = I.movedTo (readerOf row) z } ≡ call.readBytes s (readerOf row)
+          bytes-got a z g = each.bytes-got s (readerOf row) num e h end cut r bytes-at a z g
+
+          pub bytes-no : (why n : ℕ) → r ≡ hP.Refused why → n ≡ missing (ltb end (length s)) why → asPart (declines n (readerOf row)) ≡ call.readBytes s (readerOf row)
+          bytes-no why n g k = each.bytes-no s (readerOf row) num e h end cut r bytes-at why n g k
+
+        module _ (r : PartRead) (f : r ≡ textAt (take end s) lim at) where
+          string-at : r ≡ textAt (take end s) (readerOf row .limits) (readerOf row .place .0)
+          string-at = rw (← within, ← here) f
+
+          pub string-got : (a z : Place) → r ≡ hP.Got a z → record { answer = P.Got a z; state = I.movedTo (readerOf row) z } ≡ call.readString s (readerOf row)
+          string-got a z g = each.string-got s (readerOf row) num e h end cut r string-at a z g
+
+          pub string-no : (why n : ℕ) → r ≡ hP.Refused why → n ≡ missing (ltb end (length s)) why → asPart (declines n (readerOf row)) ≡ call.readString s (readerOf row)
+          string-no why n g k = each.string-no s (readerOf row) num e h end cut r string-at why n g k
+
+        module _ (r : ListHead) (f : r ≡ itemsHeadAt (take end s) lim at) where
+          list-at : r ≡ itemsHeadAt (take end s) (readerOf row .limits) (readerOf row .place .0)
+          list-at = rw (← within, ← here) f
+
+          pub list-got : (t : TType) (n : ℕ) (z : Place) → r ≡ hL.Got t n z → asList (answers (t, n) (I.movedTo (readerOf row) z)) ≡ call.readList s (readerOf row)
+          list-got t n z g = each.list-got s (readerOf row) num e h end cut r list-at t n z g
+
+          pub list-no : (why n : ℕ) → r ≡ hL.Refused why → n ≡ missing (ltb end (length s)) why → asList (declines n (readerOf row)) ≡ call.readList s (readerOf row)
+          list-no why n g k = each.list-no s (readerOf row) num e h end cut r list-at why n g k
+
+        module _ (r : MapHead) (f : r ≡ pairsHeadAt (take end s) lim at) where
+          map-at : r ≡ pairsHeadAt (take end s) (readerOf row .limits) (readerOf row .place .0)
+          map-at = rw (← within, ← here) f
+
+          pub map-got : (t u : TType) (n : ℕ) (z : Place) → r ≡ hM.Got t u n z → asMap (answers (t, u, n) (I.movedTo (readerOf row) z)) ≡ call.readMap s (readerOf row)
+          map-got t u n z g = each.map-got s (readerOf row) num e h end cut r map-at t u n z g
+
+          pub map-no : (why n : ℕ) → r ≡ hM.Refused why → n ≡ missing (ltb end (length s)) why → asMap (declines n (readerOf row)) ≡ call.readMap s (readerOf row)
+          map-no why n g k = each.map-no s (readerOf row) num e h end cut r map-at why n g k
+
+    module _ (r : FieldHead) (f : r ≡ fieldAt (take end s) (lastIn (getD row 1 0)) (getD row 0 0)) where
+      field-at : r ≡ fieldAt (take end s) (readerOf row .last .0) (readerOf row .place .0)
+      field-at = rw is f
+
+      pub field-stop : (q : Place) → r ≡ hF.Stop q → record { answer = F.Stop; state = I.movedTo (readerOf row) q } ≡ call.readField s (readerOf row)
+      field-stop q g = each.field-stop s (readerOf row) num e h end cut r field-at q g
+
+      pub field-bool : (b : Bool) (id : FieldId) (q : Place) → r ≡ hF.Bool b id q → record { answer = F.Field T.Bool id; state = I.movedTo (I.withPending (I.withLast (readerOf row) id) (W.Truth b)) q } ≡ call.readField s (readerOf row)
+      field-bool b id q g = each.field-bool s (readerOf row) num e h end cut r field-at b id q g
+
+      pub field-value : (t : TType) (id : FieldId) (q : Place) → r ≡ hF.Value t id q → record { answer = F.Field t id; state = I.movedTo (I.withLast (readerOf row) id) q } ≡ call.readField s (readerOf row)
+      field-value t id q g = each.field-value s (readerOf row) num e h end cut r field-at t id q g
+
+      pub field-no : (why n : ℕ) → r ≡ hF.Refused why → n ≡ missing (ltb end (length s)) why → asField (declines n (readerOf row)) ≡ call.readField s (readerOf row)
+      field-no why n g k = each.field-no s (readerOf row) num e h end cut r field-at why n g k
+
+  -- a message's own cut is counted from the row's place
+  module _ (o : end ≡ min (I.cutOf (I.begunHere (readerIn row))) (length s)) (at : ℕ) (p : at ≡ getD row 0 0) (lim : TConfiguration) (q : lim ≡ limitsOf row) (r : MessageHead) (f : r ≡ messageAt (take end s) lim at) where
+    cut-here : end ≡ min (I.cutOf (I.begunHere (readerOf row))) (length s)
+    cut-here = rw is o
+
+    message-at : r ≡ messageAt (take end s) (readerOf row .limits) (readerOf row .place .0)
+    message-at = rw (is, ← p, ← q) f
+
+    pub message-got : (m : TMessageType) (i : SeqNo) (a z : Place) → r ≡ hH.Got m i a z → record { answer = H.Got m i a z; state = I.movedTo (I.withLast (I.begunHere (readerOf row)) (idOf (pos 0))) z } ≡ call.readMessage s (readerOf row)
+    message-got m i a z g = each.message-got s (readerOf row) num e h end cut-here r message-at m i a z g
+
+    pub message-no : (why n : ℕ) → r ≡ hH.Refused why → n ≡ missing (ltb end (length s)) why → asMessage (declines n (readerOf row)) ≡ call.readMessage s (readerOf row)
+    message-no why n g k = each.message-no s (readerOf row) num e h end cut-here r message-at why n g k
+
+pub field-found : (s row : List ℕ) (y z : ℤ) (at : ℕ) (r : FieldHead) → r ≡ fieldAt s y at → y ≡ z → z ≡ lastIn (getD row 1 0) → at ≡ getD row 0 0 → r ≡ fieldAt s (lastIn (getD row 1 0)) (getD row 0 0)
+field-found s row y z at r e f g p = rw (← g, ← f, ← p) e
 
 pub ruleset finding = (field-found, toZ-ofZ, sfits-of)
 
@@ -207,9 +301,9 @@ module _ (row : List ℕ) (k : ℕ) (i : ℤ) (a z : ℕ) (want : ReadMessage) w
   pub message-kept : (n : ℕ) → asMessage (declines n (readerOf row)) ≡ want → row ≡ readerAfter row n (readerOf row) → ToldMessage row row k k i i a a z z n want
   message-kept n e f = rw (← e) (record { number = refl; the-kind = refl; the-sequence = refl; the-start = refl; the-end = refl; the-row = f })
 
-  pub message-told : (row′ : List ℕ) (k′ : ℕ) (i′ : ℤ) (a′ z′ : ℕ) (r : MessageHead) (m : TMessageType) (nr : SeqNo) (from q : Place) → Open row → r ≡ hH.Got m nr from q → record { answer = H.Got m nr from q; state = I.movedTo (I.withLast (readerOf row) (idOf (pos 0))) q } ≡ want → k′ ≡ messageCode m → i′ ≡ nr .0 → a′ ≡ from .0 → z′ ≡ q .0 → row′ ≡ set (set row 0 (q .0)) 1 (turnOf (pos 0) 0) → ToldMessage row row′ k k′ i i′ a a′ z z′ 0 want
-  message-told row′ k′ i′ a′ z′ r m nr from q clear f e b c d g h =
-      rw (← e) (record { number = refl; the-kind = b; the-sequence = c; the-start = d; the-end = g; the-row = h ∙ reader-lasts row clear (q .0) (idOf (pos 0)) })
+  pub message-told : (row′ : List ℕ) (k′ : ℕ) (i′ : ℤ) (a′ z′ at : ℕ) (r : MessageHead) (m : TMessageType) (nr : SeqNo) (from q : Place) → Open row → r ≡ hH.Got m nr from q → record { answer = H.Got m nr from q; state = I.movedTo (I.withLast (I.begunHere (readerOf row)) (idOf (pos 0))) q } ≡ want → k′ ≡ messageCode m → i′ ≡ nr .0 → a′ ≡ from .0 → z′ ≡ q .0 → at ≡ getD row 0 0 → row′ ≡ set (set (set row 0 (q .0)) 1 0) 5 at → ToldMessage row row′ k k′ i i′ a a′ z z′ 0 want
+  message-told row′ k′ i′ a′ z′ at r m nr from q clear f e b c d g p h =
+      rw (← e) (record { number = refl; the-kind = b; the-sequence = c; the-start = d; the-end = g; the-row = (rw p at h) ∙ reader-begins row clear (q .0) })
 
 -- the bool call: the gate's 12 is its turn
 module _ (s row : List ℕ) (num : ℕ) (e : num ≡ I.gate (length s) (readerOf row)) where
@@ -239,45 +333,48 @@ module _ (s row : List ℕ) (num : ℕ) (e : num ≡ I.gate (length s) (readerOf
       rw (← (each.bool-pending s (readerOf row) true (sound-so OUT-OF-TURN h (λ z. omega arith)) (eqb (getD row 1 0 / 65536) 1) refl (reader-truth row held)))
       (record { number = refl; the-value = rw f at g; the-row = k ∙ reader-takes row held t f })
 
-  module _ (h : num ≡ 0) (r : BoolRead) (f : r ≡ truthAt s (readerOf row .place .0)) where
+  module _ (h : num ≡ 0) (end : ℕ) (o : end ≡ getD row 0 0 + min (leftOf (writerIn row)) (length s - getD row 0 0)) (at : ℕ) (p : at ≡ getD row 0 0) (r : BoolRead) (f : r ≡ truthAt (take end s) at) where
     element : (x : ReadBool) → x ≡ call.elementBool s (readerOf row) → x ≡ call.readBool s (readerOf row)
     element x k =
         let clear : Open row = reader-opens (length s) row num e h in
         each.bool-element s (readerOf row) true (sound-so 0 h (λ z. omega arith)) x refl (rw (reader-is row clear) (reader-free row clear)) k
 
-    pub bool-got : (b : Bool) (q : Place) → r ≡ hB.Got b q → asBool (answers b (I.movedTo (readerOf row) q)) ≡ call.readBool s (readerOf row)
-    bool-got b q k = element _ (each.element-got s (readerOf row) r f b q k)
+    bool-at : r ≡ truthAt (take end s) (readerOf row .place .0)
+    bool-at = f ∙ ap (truthAt (take end s)) (here s row num e h end o at p)
 
-    pub bool-no : (why : ℕ) → r ≡ hB.Refused why → asBool (declines why (readerOf row)) ≡ call.readBool s (readerOf row)
-    bool-no why k = element _ (each.element-no s (readerOf row) r f why k)
+    pub bool-got : (b : Bool) (q : Place) → r ≡ hB.Got b q → asBool (answers b (I.movedTo (readerOf row) q)) ≡ call.readBool s (readerOf row)
+    bool-got b q k = element _ (each.element-got s (readerOf row) end (cut s row num e h end o) r bool-at b q k)
+
+    pub bool-no : (why n : ℕ) → r ≡ hB.Refused why → n ≡ missing (ltb end (length s)) why → asBool (declines n (readerOf row)) ≡ call.readBool s (readerOf row)
+    bool-no why n k m = element _ (each.element-no s (readerOf row) end (cut s row num e h end o) r bool-at why n k m)
 
 pub done-through : (row row′ : List ℕ) (n : ℕ) (read want : ReadDone) → ToldDone row row′ n read → read ≡ want → ToldDone row row′ n want
 done-through row row′ n read want h e = rw e at h
 
-pub ruleset gating = (reader-left, reader-opens, reader-stays, toZ-ofZ, sfits-of)
+pub ruleset gating = (reader-left, reader-opens, reader-stays, inside, counts, toZ-ofZ, sfits-of)
 
-pub ruleset i8-reads = (i8-kept, i8-told, i8-at, i8-stopped, i8-got, i8-no, gating)
+pub ruleset i8-reads = (i8-kept, i8-told, i8-stopped, i8-got, i8-no, gating)
 
-pub ruleset i16-reads = (i16-kept, i16-told, i16-at, i16-stopped, i16-got, i16-no, gating)
+pub ruleset i16-reads = (i16-kept, i16-told, i16-stopped, i16-got, i16-no, gating)
 
-pub ruleset i32-reads = (i32-kept, i32-told, i32-at, i32-stopped, i32-got, i32-no, gating)
+pub ruleset i32-reads = (i32-kept, i32-told, i32-stopped, i32-got, i32-no, gating)
 
-pub ruleset i64-reads = (i64-kept, i64-told, i64-at, i64-stopped, i64-got, i64-no, gating)
+pub ruleset i64-reads = (i64-kept, i64-told, i64-stopped, i64-got, i64-no, gating)
 
-pub ruleset double-reads = (double-kept, double-told, double-at, double-stopped, double-got, double-no, gating)
+pub ruleset double-reads = (double-kept, double-told, double-stopped, double-got, double-no, gating)
 
-pub ruleset bool-reads = (bool-kept, bool-told, bool-at, bool-stopped, bool-got, bool-no, bool-taken, gating)
+pub ruleset bool-reads = (bool-kept, bool-told, bool-stopped, bool-got, bool-no, bool-taken, gating)
 
-pub ruleset uuid-reads = (part-kept, part-told, uuid-at, uuid-stopped, uuid-got, uuid-no, gating)
+pub ruleset uuid-reads = (part-kept, part-told, uuid-stopped, uuid-got, uuid-no, gating)
 
-pub ruleset bytes-reads = (part-kept, part-told, bytes-at, bytes-stopped, bytes-got, bytes-no, gating)
+pub ruleset bytes-reads = (part-kept, part-told, bytes-stopped, bytes-got, bytes-no, gating)
 
-pub ruleset string-reads = (part-kept, part-told, string-at, string-stopped, string-got, string-no, gating)
+pub ruleset string-reads = (part-kept, part-told, string-stopped, string-got, string-no, gating)
 
-pub ruleset list-reads = (list-kept, list-told, list-at, list-stopped, list-got, list-no, set-is, gating)
+pub ruleset list-reads = (list-kept, list-told, list-stopped, list-got, list-no, set-is, gating)
 
-pub ruleset map-reads = (map-kept, map-told, map-at, map-stopped, map-got, map-no, gating)
+pub ruleset map-reads = (map-kept, map-told, map-stopped, map-got, map-no, gating)
 
-pub ruleset message-reads = (message-kept, message-told, message-at, message-stopped, message-got, message-no, gating)
+pub ruleset message-reads = (message-kept, message-told, message-stopped, message-got, message-no, cut-inside, cut-counts, gating)
 
-pub ruleset field-reads = (field-kept, field-ended, bool-headed, value-headed, field-at, field-stopped, field-stop, field-bool, field-value, field-no, gating)
+pub ruleset field-reads = (field-kept, field-ended, bool-headed, value-headed, field-stopped, field-stop, field-bool, field-value, field-no, gating)

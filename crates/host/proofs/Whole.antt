@@ -16,11 +16,11 @@ use Rattle.types.specs.Codes.{truthCode}
 use Rattle.types.specs.Limits.{inRange}
 use Rattle.types.specs.Refusals.{DEPTH, OUT-OF-TURN, BAD-STATE}
 use Rattle.numbers.specs.Varint.{Found, got, refused}
-use Rattle.heads.specs.Reader.{Reader, readAt}
+use Rattle.heads.specs.Reader.{Reader, readTo}
 use Rattle.heads.specs.Heads.{Field, stop, bool, value, field, message}
 use Rattle.heads.specs.Answers.{place}
 use Rattle.input.specs.State as I
-use Rattle.input.specs.Outcome.{Outcome, calls, from, answers, declines, stays, begins, ends, anew, onField}
+use Rattle.input.specs.Outcome.{Outcome, callsTo, calls, cutHere, from, answers, declines, stays, begins, ends, anew, onField}
 use Rattle.input.specs.Answers.{asDone}
 use Rattle.input.specs.Calls.{structBegin, structEnd}
 use Rattle.input.specs.declared.Awaited.{Awaited}
@@ -30,7 +30,7 @@ use Rattle.numbers.specs.Answers.{wroteAt}
 use Rattle.numbers.specs.declared.Wrote.{Wrote}
 use Rattle.numbers.specs.declared.Wrote.the-variants as P
 use Rattle.output.specs.State as O
-use Rattle.output.specs.Calls.{call, writes, leaves, settled, refusedBy, beginWrong, endWrong}
+use Rattle.output.specs.Calls.{call, sizeWrong, whyNot, writes, leaves, settled, refusedBy, beginWrong, endWrong, structBeginCall, structEndCall}
 use Rattle.output.specs.declared.AwaitedField.{AwaitedField}
 use Rattle.output.specs.declared.AwaitedField.the-variants as A
 use Rattle.output.specs.declared.Written.{Written}
@@ -39,7 +39,7 @@ use Rattle.rows.specs.Structs.{savedRead, restoredRead, savedWrite, restoredWri
 
 -- a state with other ids
 abbrev pub withIds : I.State → List ℤ → I.State
-withIds st ids = record { place = st .place; last = st .last; depth = st .depth; ids = ids; pending = st .pending; limits = st .limits }
+withIds st ids = record { place = st .place; last = st .last; depth = st .depth; ids = ids; pending = st .pending; limits = st .limits; begin = st .begin }
 
 abbrev pub toIds : {A : Type 0} → Outcome A → List ℤ → Outcome A
 toIds o ids = record { said = o .said; state = withIds (o .state) ids }
@@ -51,13 +51,13 @@ module _ (s : List ℕ) (st : I.State) (ids : List ℤ) where
     moved true g (refused why) = refl
     moved false g f = refl
 
-    pub calls-whole : (p : I.State → Reader A) → p (withIds st ids) ≡ p st → calls p move s (withIds st ids) ≡ toIds (calls p move s st) ids
-    unfolding calls I.gate I.sound
-    calls-whole p e = rw e (moved (eqb (I.gate (length s) st) 0) (I.gate (length s) st) (readAt (p st) s (st .place .0)))
+    pub calls-whole : (cut : I.State → ℕ) → cut (withIds st ids) ≡ cut st → (p : I.State → Reader A) → p (withIds st ids) ≡ p st → callsTo cut p move s (withIds st ids) ≡ toIds (callsTo cut p move s st) ids
+    unfolding callsTo I.gate I.sound
+    calls-whole cut c p e = rw (c, e) (moved (eqb (I.gate (length s) st) 0) (I.gate (length s) st) (readTo (p st) s (cut st) (st .place .0)))
 
   -- of each call that only moves the place
   pub stays-whole : {A : Type 0} (p : I.State → Reader A) → p (withIds st ids) ≡ p st → calls p stays s (withIds st ids) ≡ toIds (calls p stays s st) ids
-  stays-whole p e = calls-whole stays (λ a. refl) p e
+  stays-whole p e = calls-whole stays (λ a. refl) I.cutOf refl p e
 
   -- of the field call and the message call
   fielded : (f : Field) → onField (withIds st ids) f ≡ withIds (onField st f) ids
@@ -66,10 +66,10 @@ module _ (s : List ℕ) (st : I.State) (ids : List ℤ) where
   fielded (value t id) = refl
 
   pub field-whole : calls (λ st. field (st .last .0)) onField s (withIds st ids) ≡ toIds (calls (λ st. field (st .last .0)) onField s st) ids
-  field-whole = calls-whole onField fielded (λ st. field (st .last .0)) refl
+  field-whole = calls-whole onField fielded I.cutOf refl (λ st. field (st .last .0)) refl
 
-  pub message-whole : calls (λ st. message (st .limits)) anew s (withIds st ids) ≡ toIds (calls (λ st. message (st .limits)) anew s st) ids
-  message-whole = calls-whole anew (λ m. refl) (λ st. message (st .limits)) refl
+  pub message-whole : callsTo cutHere (λ st. message (st .limits)) anew s (withIds st ids) ≡ toIds (callsTo cutHere (λ st. message (st .limits)) anew s st) ids
+  message-whole = calls-whole anew (λ m. refl) cutHere refl (λ st. message (st .limits)) refl
 
   -- a struct's begin saves the last id in the row as in the state
   begun : (a b : Bool) (g : ℕ) → asDone (cond a (cond b (declines DEPTH (withIds st ids)) (answers tt (I.entered (withIds st ids)))) (declines g (withIds st ids))) ≡ (let r : ReadDone = asDone (cond a (cond b (declines DEPTH st) (answers tt (I.entered st))) (declines g st)) in record { answer = r .answer; state = withIds (r .state) (savedRead ids st (r .answer)) })
@@ -93,7 +93,7 @@ module _ (s : List ℕ) (st : I.State) (ids : List ℤ) where
 
 -- The writer's states.
 abbrev pub idsWith : O.State → List ℤ → O.State
-idsWith st ids = record { place = st .place; last = st .last; depth = st .depth; ids = ids; pending = st .pending; limits = st .limits }
+idsWith st ids = record { place = st .place; last = st .last; depth = st .depth; ids = ids; pending = st .pending; limits = st .limits; begin = st .begin }
 
 module _ (buf : List ℕ) (st : O.State) (ids : List ℤ) where
   -- of a call that leaves the ids: what is wrong with it and its bytes do not see them
@@ -104,11 +104,11 @@ module _ (buf : List ℕ) (st : O.State) (ids : List ℤ) where
   written false g next w = refl
 
   pub writes-whole : (wrong : ℕ) (bs : List ℕ) (next : O.State) → writes buf (idsWith st ids) (call wrong bs (idsWith next ids)) ≡ record { answer = writes buf st (call wrong bs next) .answer; state = idsWith (writes buf st (call wrong bs next) .state) ids }
-  unfolding writes O.unsound
-  writes-whole wrong bs next = written (eqb (O.orElse (O.unsound (length buf) st) wrong) 0) (O.orElse (O.unsound (length buf) st) wrong) next (wroteAt buf (st .place .0) bs)
+  unfolding writes whyNot sizeWrong O.unsound
+  writes-whole wrong bs next = written (eqb (whyNot buf st (call wrong bs next)) 0) (whyNot buf st (call wrong bs next)) next (wroteAt buf (st .place .0) bs)
 
   pub leaves-whole : (wrong : ℕ) (bs : List ℕ) (next : O.State) → leaves buf (idsWith st ids) (call wrong bs (idsWith next ids)) ≡ leaves buf st (call wrong bs next)
-  unfolding leaves O.unsound
+  unfolding leaves whyNot sizeWrong O.unsound
   leaves-whole wrong bs next = refl
 
   -- a struct's begin and end
@@ -119,9 +119,9 @@ module _ (buf : List ℕ) (st : O.State) (ids : List ℤ) where
   begins-so false g w = refl
 
   pub begin-writes-whole : beginWrites buf (idsWith st ids) ≡ record { answer = beginWrites buf st .answer; state = idsWith (beginWrites buf st .state) (savedWrite ids st (beginWrites buf st .answer)) }
-  unfolding beginWrites writes O.unsound O.inTurn beginWrong
+  unfolding beginWrites writes whyNot sizeWrong O.unsound O.inTurn beginWrong
   begin-writes-whole =
-      begins-so (eqb (O.orElse (O.unsound (length buf) st) (O.inTurn st (beginWrong st))) 0) (O.orElse (O.unsound (length buf) st) (O.inTurn st (beginWrong st))) (wroteAt buf (st .place .0) [])
+      begins-so (eqb (whyNot buf st (structBeginCall st)) 0) (whyNot buf st (structBeginCall st)) (wroteAt buf (st .place .0) [])
 
   ends-so : (a : Bool) (g : ℕ) (w : Wrote) → cond a (settled (idsWith st ids) (O.ended (idsWith st ids)) w) (refusedBy (idsWith st ids) g) ≡ (let r : Written = cond a (settled st (O.ended st) w) (refusedBy st g) in record { answer = r .answer; state = idsWith (restoredWrite ids (r .state) (r .answer)) ids })
   unfolding settled
@@ -130,9 +130,9 @@ module _ (buf : List ℕ) (st : O.State) (ids : List ℤ) where
   ends-so false g w = refl
 
   pub end-writes-whole : endWrites buf (idsWith st ids) ≡ record { answer = endWrites buf st .answer; state = idsWith (restoredWrite ids (endWrites buf st .state) (endWrites buf st .answer)) ids }
-  unfolding endWrites writes O.unsound O.inTurn endWrong
+  unfolding endWrites writes whyNot sizeWrong O.unsound O.inTurn endWrong
   end-writes-whole =
-      ends-so (eqb (O.orElse (O.unsound (length buf) st) (O.inTurn st (endWrong st))) 0) (O.orElse (O.unsound (length buf) st) (O.inTurn st (endWrong st))) (wroteAt buf (st .place .0) [])
+      ends-so (eqb (whyNot buf st (structEndCall st)) 0) (whyNot buf st (structEndCall st)) (wroteAt buf (st .place .0) [])
 
 -- A row that holds no state: of another length, or with something waiting that cannot. What stands for its state every call refuses, BAD STATE.
 pub no-reader : (len : ℕ) → I.gate len (I.fresh noLimits) ≡ BAD-STATE
@@ -143,36 +143,37 @@ pub no-writer : (len : ℕ) → O.unsound len (O.begun noLimits) ≡ BAD-STATE
 unfolding O.unsound O.begun inRange
 no-writer len = refl
 
-module _ (row : List ℕ) (h : length row ≡ 5 → ⊥) where
+module _ (row : List ℕ) (h : length row ≡ 6 → ⊥) where
   pub no-reader-row : readerOf row ≡ I.fresh noLimits
   unfolding readerOf
-  no-reader-row = rw (ne-eqb (length row) 5 h)
+  no-reader-row = rw (ne-eqb (length row) 6 h)
 
   pub no-writer-row : writerOf row ≡ O.begun noLimits
   unfolding writerOf
-  no-writer-row = rw (ne-eqb (length row) 5 h)
+  no-writer-row = rw (ne-eqb (length row) 6 h)
 
-module _ (row : List ℕ) (five : length row ≡ 5) where
+module _ (row : List ℕ) (six : length row ≡ 6) where
   pub no-reader-turn : readerTop ≤ getD row 1 0 → readerOf row ≡ I.fresh noLimits
   unfolding readerOf
-  no-reader-turn h = rw (eq-eqb (length row) 5 five, le-ltb (getD row 1 0) 196608 h)
+  no-reader-turn h = rw (eq-eqb (length row) 6 six, le-ltb (getD row 1 0) 196608 h)
 
   pub no-writer-turn : writerTop ≤ getD row 1 0 → writerOf row ≡ O.begun noLimits
   unfolding writerOf
-  no-writer-turn h = rw (eq-eqb (length row) 5 five, le-ltb (getD row 1 0) 4295032832 h)
+  no-writer-turn h = rw (eq-eqb (length row) 6 six, le-ltb (getD row 1 0) 4295032832 h)
 
 -- The row behind a call holds the call's next state, its ids apart, which stand in the other row.
-data Five : List ℕ → Type 0 where
-  five : (a b c d e : ℕ) → Five (a ∷ b ∷ c ∷ d ∷ e ∷ [])
+data Six : List ℕ → Type 0 where
+  six : (a b c d e f : ℕ) → Six (a ∷ b ∷ c ∷ d ∷ e ∷ f ∷ [])
 
-view : (row : List ℕ) → length row ≡ 5 → Five row
+view : (row : List ℕ) → length row ≡ 6 → Six row
 view [] h = absurd (omega arith)
 view (a ∷ []) h = absurd (omega arith)
 view (a ∷ b ∷ []) h = absurd (omega arith)
 view (a ∷ b ∷ c ∷ []) h = absurd (omega arith)
 view (a ∷ b ∷ c ∷ d ∷ []) h = absurd (omega arith)
-view (a ∷ b ∷ c ∷ d ∷ e ∷ []) h = five a b c d e
-view (a ∷ b ∷ c ∷ d ∷ e ∷ f ∷ r) h = absurd (omega arith)
+view (a ∷ b ∷ c ∷ d ∷ e ∷ []) h = absurd (omega arith)
+view (a ∷ b ∷ c ∷ d ∷ e ∷ f ∷ []) h = six a b c d e f
+view (a ∷ b ∷ c ∷ d ∷ e ∷ f ∷ g ∷ r) h = absurd (omega arith)
 
 low-part : (o w : ℕ) → o < 65536 → (o + w * 65536) % 65536 ≡ o
 low-part o w h = omega arith
@@ -195,7 +196,7 @@ awaited-small W.Nothing = omega arith
 awaited-small (W.Truth true) = omega arith
 awaited-small (W.Truth false) = omega arith
 
-pub reader-back : (row : List ℕ) (st : I.State) → length row ≡ 5 → SFits w16 (st .last .0) → st .limits ≡ limitsOf row → readerOf (readerAfter row 0 st) ≡ withIds st (replicate 64 (pos 0))
+pub reader-back : (row : List ℕ) (st : I.State) → length row ≡ 6 → SFits w16 (st .last .0) → st .limits ≡ limitsOf row → readerOf (readerAfter row 0 st) ≡ withIds st (replicate 64 (pos 0))
 unfolding readerOf readerAfter refilled
 reader-back row st h k l = go (view row h) l
   where
@@ -205,8 +206,8 @@ reader-back row st h k l = go (view row h) l
     o : ℕ
     o = ofZ w16 (st .last .0)
 
-    go : {row : List ℕ} → Five row → st .limits ≡ limitsOf row → readerOf (readerAfter row 0 st) ≡ withIds st (replicate 64 (pos 0))
-    go (five a b c d e) l =
+    go : {row : List ℕ} → Six row → st .limits ≡ limitsOf row → readerOf (readerAfter row 0 st) ≡ withIds st (replicate 64 (pos 0))
+    go (six a b c d e f) l =
         let small : o < 65536 = fits-ofZ k .fits in
         let below : o + w * 65536 < 196608 = omega (arith, awaited-small (st .pending .0)) in
         rw (lt-ltb (o + w * 65536) 196608 below, last-back (st .last .0) w k, high-part o w small, awaited-back (st .pending .0), l)
@@ -228,7 +229,7 @@ unfolding fieldNo
 field-small A.Nothing h = omega arith
 field-small (A.Field id) h = omega (arith, fits-ofZ h .fits)
 
-pub writer-back : (row : List ℕ) (st : O.State) → length row ≡ 5 → SFits w16 (st .last .0) → FieldFits (st .pending .0) → st .limits ≡ limitsOf row → writerOf (writerAfter row 0 st) ≡ idsWith st (replicate 64 (pos 0))
+pub writer-back : (row : List ℕ) (st : O.State) → length row ≡ 6 → SFits w16 (st .last .0) → FieldFits (st .pending .0) → st .limits ≡ limitsOf row → writerOf (writerAfter row 0 st) ≡ idsWith st (replicate 64 (pos 0))
 unfolding writerOf writerAfter refilled
 writer-back row st h k p l = go (view row h) l
   where
@@ -238,8 +239,8 @@ writer-back row st h k p l = go (view row h) l
     o : ℕ
     o = ofZ w16 (st .last .0)
 
-    go : {row : List ℕ} → Five row → st .limits ≡ limitsOf row → writerOf (writerAfter row 0 st) ≡ idsWith st (replicate 64 (pos 0))
-    go (five a b c d e) l =
+    go : {row : List ℕ} → Six row → st .limits ≡ limitsOf row → writerOf (writerAfter row 0 st) ≡ idsWith st (replicate 64 (pos 0))
+    go (six a b c d e f) l =
         let small : o < 65536 = fits-ofZ k .fits in
         let below : o + w * 65536 < 4295032832 = omega (arith, field-small (st .pending .0) p) in
         rw (lt-ltb (o + w * 65536) 4295032832 below, last-back (st .last .0) w k, high-part o w small, field-back (st .pending .0) p, l)

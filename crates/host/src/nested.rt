@@ -31,7 +31,7 @@ pub extern "C" fn tagrumzil_read_struct_begin(s: &[u8], row: &mut [u64], ids: &m
         return why;
     }
     let depth = row::number(row, 2);
-    if row::number(row, 3) <= depth {
+    if row::deepest(row) <= depth {
         return types::DEPTH;
     }
     structs::save(ids, depth as usize, row::last(row));

@@ -1,5 +1,6 @@
 // The reader's calls. The row holds the state before the call, and from then on the next one; the number is 0, or that of a refusal.
-// Each tests the row, reads at its place and puts what was read where the caller lent room; a refusal leaves all as it was.
+// Each tests the row, reads at its place, up to where the message must have ended, and puts what was read where the caller lent room; a
+// refusal leaves all as it was.
 ghost use mathlib.Core.Path.{_≡_};
 ghost use lib.ListN.{getD};
 ghost use Rattle.heads.specs.Answers.{fieldAt};
@@ -27,7 +28,8 @@ fn field_at(s: &[u8], row: &[u64]) -> FieldHead
     heads::read_field_begin(s, Place(row::place(row)), FieldId(row::last(row)))
 }
 
-// A message's header: its type, its sequence number, and where its name stands in the input. The last id is 0 from then on.
+// A message's header: its type, its sequence number, and where its name stands in the input. The last id is 0 from then on, and the
+// message is counted from the header's first byte.
 #[no_mangle]
 pub extern "C" fn tagrumzil_read_message_begin(
     s: &[u8],
@@ -43,17 +45,19 @@ pub extern "C" fn tagrumzil_read_message_begin(
     if why != 0 {
         return why;
     }
-    match heads::read_message_begin(s, Place(row::place(row)), row::limits(row)) {
+    let at = row::place(row);
+    let cut = row::cut_here(row, s.len());
+    match heads::read_message_begin(&s[..cut], Place(at), row::limits(row)) {
         MessageHead::Got(t, number, from, to) => {
             let order = number.0;
             *kind = types::message_type_to_u8(t);
             *sequence = order;
             *start = from.0;
             *end = to.0;
-            row::head(row, to.0, 0, 0);
+            row::begun(row, at, to.0);
             0
         }
-        MessageHead::Refused(why) => why,
+        MessageHead::Refused(why) => input::missing(why, cut, s.len()),
     }
 }
 
@@ -71,7 +75,8 @@ pub extern "C" fn tagrumzil_read_field_begin(
     if why != 0 {
         return why;
     }
-    match field_at(s, row) {
+    let cut = row::cut(row, s.len());
+    match field_at(&s[..cut], row) {
         FieldHead::Stop(next) => {
             *kind = 0;
             row::put(row, 0, next.0 as u64);
@@ -91,7 +96,7 @@ pub extern "C" fn tagrumzil_read_field_begin(
             row::head(row, next.0, n, 0);
             0
         }
-        FieldHead::Refused(why) => why,
+        FieldHead::Refused(why) => input::missing(why, cut, s.len()),
     }
 }
 
@@ -110,13 +115,14 @@ pub extern "C" fn tagrumzil_read_bool(s: &[u8], row: &mut [u64], value: &mut boo
     if why != 0 {
         return why;
     }
-    match heads::read_bool(s, Place(row::place(row))) {
+    let cut = row::cut(row, s.len());
+    match heads::read_bool(&s[..cut], Place(row::place(row))) {
         BoolRead::Got(truth, next) => {
             *value = truth;
             row::put(row, 0, next.0 as u64);
             0
         }
-        BoolRead::Refused(why) => why,
+        BoolRead::Refused(why) => input::missing(why, cut, s.len()),
     }
 }
 
@@ -128,13 +134,14 @@ pub extern "C" fn tagrumzil_read_i8(s: &[u8], row: &mut [u64], value: &mut i8) -
     if why != 0 {
         return why;
     }
-    match heads::read_i8(s, Place(row::place(row))) {
+    let cut = row::cut(row, s.len());
+    match heads::read_i8(&s[..cut], Place(row::place(row))) {
         I8Read::Got(n, next) => {
             *value = n;
             row::put(row, 0, next.0 as u64);
             0
         }
-        I8Read::Refused(why) => why,
+        I8Read::Refused(why) => input::missing(why, cut, s.len()),
     }
 }
 
@@ -146,13 +153,14 @@ pub extern "C" fn tagrumzil_read_i16(s: &[u8], row: &mut [u64], value: &mut i16)
     if why != 0 {
         return why;
     }
-    match heads::read_i16(s, Place(row::place(row))) {
+    let cut = row::cut(row, s.len());
+    match heads::read_i16(&s[..cut], Place(row::place(row))) {
         I16Read::Got(n, next) => {
             *value = n;
             row::put(row, 0, next.0 as u64);
             0
         }
-        I16Read::Refused(why) => why,
+        I16Read::Refused(why) => input::missing(why, cut, s.len()),
     }
 }
 
@@ -164,13 +172,14 @@ pub extern "C" fn tagrumzil_read_i32(s: &[u8], row: &mut [u64], value: &mut i32)
     if why != 0 {
         return why;
     }
-    match heads::read_i32(s, Place(row::place(row))) {
+    let cut = row::cut(row, s.len());
+    match heads::read_i32(&s[..cut], Place(row::place(row))) {
         I32Read::Got(n, next) => {
             *value = n;
             row::put(row, 0, next.0 as u64);
             0
         }
-        I32Read::Refused(why) => why,
+        I32Read::Refused(why) => input::missing(why, cut, s.len()),
     }
 }
 
@@ -182,13 +191,14 @@ pub extern "C" fn tagrumzil_read_i64(s: &[u8], row: &mut [u64], value: &mut i64)
     if why != 0 {
         return why;
     }
-    match heads::read_i64(s, Place(row::place(row))) {
+    let cut = row::cut(row, s.len());
+    match heads::read_i64(&s[..cut], Place(row::place(row))) {
         I64Read::Got(n, next) => {
             *value = n;
             row::put(row, 0, next.0 as u64);
             0
         }
-        I64Read::Refused(why) => why,
+        I64Read::Refused(why) => input::missing(why, cut, s.len()),
     }
 }
 
@@ -201,13 +211,14 @@ pub extern "C" fn tagrumzil_read_double(s: &[u8], row: &mut [u64], bits: &mut u6
     if why != 0 {
         return why;
     }
-    match heads::read_double(s, Place(row::place(row))) {
+    let cut = row::cut(row, s.len());
+    match heads::read_double(&s[..cut], Place(row::place(row))) {
         DoubleRead::Got(n, next) => {
             *bits = n;
             row::put(row, 0, next.0 as u64);
             0
         }
-        DoubleRead::Refused(why) => why,
+        DoubleRead::Refused(why) => input::missing(why, cut, s.len()),
     }
 }
 
@@ -225,14 +236,15 @@ pub extern "C" fn tagrumzil_read_uuid(
     if why != 0 {
         return why;
     }
-    match heads::read_uuid(s, Place(row::place(row))) {
+    let cut = row::cut(row, s.len());
+    match heads::read_uuid(&s[..cut], Place(row::place(row))) {
         PartRead::Got(from, to) => {
             *start = from.0;
             *end = to.0;
             row::put(row, 0, to.0 as u64);
             0
         }
-        PartRead::Refused(why) => why,
+        PartRead::Refused(why) => input::missing(why, cut, s.len()),
     }
 }
 
@@ -250,14 +262,15 @@ pub extern "C" fn tagrumzil_read_bytes(
     if why != 0 {
         return why;
     }
-    match heads::read_bytes(s, Place(row::place(row)), row::limits(row)) {
+    let cut = row::cut(row, s.len());
+    match heads::read_bytes(&s[..cut], Place(row::place(row)), row::limits(row)) {
         PartRead::Got(from, to) => {
             *start = from.0;
             *end = to.0;
             row::put(row, 0, to.0 as u64);
             0
         }
-        PartRead::Refused(why) => why,
+        PartRead::Refused(why) => input::missing(why, cut, s.len()),
     }
 }
 
@@ -275,14 +288,15 @@ pub extern "C" fn tagrumzil_read_string(
     if why != 0 {
         return why;
     }
-    match heads::read_string(s, Place(row::place(row)), row::limits(row)) {
+    let cut = row::cut(row, s.len());
+    match heads::read_string(&s[..cut], Place(row::place(row)), row::limits(row)) {
         PartRead::Got(from, to) => {
             *start = from.0;
             *end = to.0;
             row::put(row, 0, to.0 as u64);
             0
         }
-        PartRead::Refused(why) => why,
+        PartRead::Refused(why) => input::missing(why, cut, s.len()),
     }
 }
 
@@ -300,14 +314,15 @@ pub extern "C" fn tagrumzil_read_list_begin(
     if why != 0 {
         return why;
     }
-    match heads::read_list_begin(s, Place(row::place(row)), row::limits(row)) {
+    let cut = row::cut(row, s.len());
+    match heads::read_list_begin(&s[..cut], Place(row::place(row)), row::limits(row)) {
         ListHead::Got(t, n, next) => {
             *kind = types::type_to_u8(t);
             *count = n;
             row::put(row, 0, next.0 as u64);
             0
         }
-        ListHead::Refused(why) => why,
+        ListHead::Refused(why) => input::missing(why, cut, s.len()),
     }
 }
 
@@ -324,14 +339,15 @@ pub extern "C" fn tagrumzil_read_set_begin(
     if why != 0 {
         return why;
     }
-    match heads::read_list_begin(s, Place(row::place(row)), row::limits(row)) {
+    let cut = row::cut(row, s.len());
+    match heads::read_list_begin(&s[..cut], Place(row::place(row)), row::limits(row)) {
         ListHead::Got(t, n, next) => {
             *kind = types::type_to_u8(t);
             *count = n;
             row::put(row, 0, next.0 as u64);
             0
         }
-        ListHead::Refused(why) => why,
+        ListHead::Refused(why) => input::missing(why, cut, s.len()),
     }
 }
 
@@ -350,7 +366,8 @@ pub extern "C" fn tagrumzil_read_map_begin(
     if why != 0 {
         return why;
     }
-    match heads::read_map_begin(s, Place(row::place(row)), row::limits(row)) {
+    let cut = row::cut(row, s.len());
+    match heads::read_map_begin(&s[..cut], Place(row::place(row)), row::limits(row)) {
         MapHead::Got(k, v, n, next) => {
             *key = types::type_to_u8(k);
             *value = types::type_to_u8(v);
@@ -358,6 +375,6 @@ pub extern "C" fn tagrumzil_read_map_begin(
             row::put(row, 0, next.0 as u64);
             0
         }
-        MapHead::Refused(why) => why,
+        MapHead::Refused(why) => input::missing(why, cut, s.len()),
     }
 }

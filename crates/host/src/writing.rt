@@ -1,8 +1,9 @@
-// The writer's calls, over the row itself: the row is tested, the bytes are put at its place, and it moves behind them. The number is 0, or that of a
-// refusal, which leaves row and buffer as they are.
+// The writer's calls, over the row itself: the row is tested, then the arguments and the ceiling, the bytes are put at its place, and it
+// moves behind them. The number is 0, or that of a refusal, which leaves row and buffer as they are.
 ghost use mathlib.Core.Path.{_≡_};
 ghost use lib.ListN.{length};
 ghost use Rattle.types.specs.Codes.{typeByNumber};
+ghost use Rattle.types.specs.Refusals.{OUT-OF-TURN};
 ghost use Rattle.types.specs.declared.TypeRead.the-variants as R;
 ghost use Rattle.output.specs.State.{unsound, orElse, turn};
 ghost use Rattle.output.specs.Calls.{stopCall, boolCall, i8Call, intCall, doubleCall, uuidCall, bytesCall, stringCall};
@@ -12,6 +13,7 @@ ghost use Rattle.rows.specs.Writes.{Made, fieldBy, itemsBy, pairsBy, pairsOfTyp
 use output::Uuid;
 use puts::wrong;
 use rows::row;
+use rows::stops;
 use rows::structs;
 use types::FieldId;
 use types::MessageTypeRead;
@@ -21,7 +23,7 @@ use types::TypeRead;
 
 const IDS: usize = 64;
 
-// A message's header. A type out of 1 to 4 is BAD MESSAGE TYPE.
+// A message's header. A type out of 1 to 4 is BAD MESSAGE TYPE. The message is counted from the header's first byte.
 #[no_mangle]
 pub extern "C" fn tagrumzil_write_message_begin(
     buf: &mut [u8],
@@ -39,12 +41,13 @@ pub extern "C" fn tagrumzil_write_message_begin(
     match types::u8_to_message_type(kind) {
         MessageTypeRead::Refused(no) => no,
         MessageTypeRead::Got(message) => {
-            let wrong = wrong::text_refusal(name, row::limits(row));
-            if wrong != 0 {
-                return wrong;
+            let stop = stops::message(row, SeqNo(sequence), name);
+            if stop != 0 {
+                return stop;
             }
-            let wrote = puts::message(buf, row::place(row), message, SeqNo(sequence), name);
-            row::wrote(row, wrote)
+            let at = row::place(row);
+            let wrote = puts::message(buf, at, message, SeqNo(sequence), name);
+            row::wrote_anew(row, at, wrote)
         }
     }
 }
@@ -67,7 +70,7 @@ pub extern "C" fn tagrumzil_write_struct_begin(
         return why;
     }
     let depth = row::number(row, 2);
-    if row::number(row, 3) <= depth {
+    if row::deepest(row) <= depth {
         return types::DEPTH;
     }
     structs::save(ids, depth as usize, row::last(row));
@@ -124,6 +127,10 @@ pub extern "C" fn tagrumzil_write_field_begin(
                 return 0;
             }
             let last = FieldId(row::last(row));
+            let stop = stops::field(row, last, FieldId(id), kind);
+            if stop != 0 {
+                return stop;
+            }
             let wrote = puts::field_header(buf, row::place(row), last, FieldId(id), kind);
             row::headed(row, id, wrote)
         }
@@ -139,29 +146,49 @@ pub extern "C" fn tagrumzil_write_field_stop(buf: &mut [u8], row: &mut [u64]) ->
     if why != 0 {
         return why;
     }
+    let stop = stops::over(row, 1, 0);
+    if stop != 0 {
+        return stop;
+    }
     let wrote = numbers::write_byte(buf, row::place(row), 0);
     row::wrote(row, wrote)
 }
 
-// An element; or the header of the bool field that waits, which is why any other call is out of turn. One more than the id's bits is what waits: 65,535 on
-// from there its low 16 bits are the id's.
+// The header of the bool field that waits, behind the row's test. One more than the id's bits is what waits: 65,535 on from there its low
+// 16 bits are the id's.
+fn waiting_bool(buf: &mut [u8], row: &mut [u64], truth: bool) -> u8
+    requires { ⌜ OUT-OF-TURN ≡ orElse (unsound (length (now buf)) (writerOf (now row))) (turn (writerOf (now row) .pending .0)) ⌝ }
+    ensures { λ r. ⌜ Made (now (row .entry)) (now (row .exit)) (now (buf .entry)) (now (buf .exit)) r (writerOf (now (row .entry))) (boolCall (writerOf (now (row .entry))) truth) ⌝ }
+{
+    let code = types::bool_to_u8(truth);
+    let id = row::id_of(row::number(row, 1) / 65536 + 65535);
+    let last = FieldId(row::last(row));
+    let stop = stops::field(row, last, FieldId(id), code);
+    if stop != 0 {
+        return stop;
+    }
+    let wrote = puts::field_header(buf, row::place(row), last, FieldId(id), code);
+    row::headed(row, id, wrote)
+}
+
+// An element; or the header of the bool field that waits, which is why any other call is out of turn.
 #[no_mangle]
 pub extern "C" fn tagrumzil_write_bool(buf: &mut [u8], row: &mut [u64], truth: bool) -> u8
     ensures { λ r. ⌜ Made (now (row .entry)) (now (row .exit)) (now (buf .entry)) (now (buf .exit)) r (writerOf (now (row .entry))) (boolCall (writerOf (now (row .entry))) truth) ⌝ }
 {
     let why = row::writer_gate(row, buf.len());
-    let code = types::bool_to_u8(truth);
-    if why == 0 {
-        let wrote = numbers::write_byte(buf, row::place(row), code);
-        return row::wrote(row, wrote);
-    }
     if why == types::OUT_OF_TURN {
-        let id = row::id_of(row::number(row, 1) / 65536 + 65535);
-        let last = FieldId(row::last(row));
-        let wrote = puts::field_header(buf, row::place(row), last, FieldId(id), code);
-        return row::headed(row, id, wrote);
+        return waiting_bool(buf, row, truth);
     }
-    why
+    if why != 0 {
+        return why;
+    }
+    let stop = stops::over(row, 1, 0);
+    if stop != 0 {
+        return stop;
+    }
+    let wrote = numbers::write_byte(buf, row::place(row), types::bool_to_u8(truth));
+    row::wrote(row, wrote)
 }
 
 #[no_mangle]
@@ -171,6 +198,10 @@ pub extern "C" fn tagrumzil_write_i8(buf: &mut [u8], row: &mut [u64], n: i8) -> 
     let why = row::writer_gate(row, buf.len());
     if why != 0 {
         return why;
+    }
+    let stop = stops::over(row, 1, 0);
+    if stop != 0 {
+        return stop;
     }
     let wrote = numbers::write_byte(buf, row::place(row), zigzag::bits8(n));
     row::wrote(row, wrote)
@@ -184,7 +215,12 @@ pub extern "C" fn tagrumzil_write_i16(buf: &mut [u8], row: &mut [u64], n: i16) -
     if why != 0 {
         return why;
     }
-    let wrote = numbers::write_varint32(buf, row::place(row), zigzag::i32_to_zigzag(n as i32));
+    let z = zigzag::i32_to_zigzag(n as i32);
+    let stop = stops::number(row, z as u64);
+    if stop != 0 {
+        return stop;
+    }
+    let wrote = numbers::write_varint32(buf, row::place(row), z);
     row::wrote(row, wrote)
 }
 
@@ -196,7 +232,12 @@ pub extern "C" fn tagrumzil_write_i32(buf: &mut [u8], row: &mut [u64], n: i32) -
     if why != 0 {
         return why;
     }
-    let wrote = numbers::write_varint32(buf, row::place(row), zigzag::i32_to_zigzag(n));
+    let z = zigzag::i32_to_zigzag(n);
+    let stop = stops::number(row, z as u64);
+    if stop != 0 {
+        return stop;
+    }
+    let wrote = numbers::write_varint32(buf, row::place(row), z);
     row::wrote(row, wrote)
 }
 
@@ -208,7 +249,12 @@ pub extern "C" fn tagrumzil_write_i64(buf: &mut [u8], row: &mut [u64], n: i64) -
     if why != 0 {
         return why;
     }
-    let wrote = numbers::write_varint64(buf, row::place(row), zigzag::i64_to_zigzag(n));
+    let z = zigzag::i64_to_zigzag(n);
+    let stop = stops::number(row, z);
+    if stop != 0 {
+        return stop;
+    }
+    let wrote = numbers::write_varint64(buf, row::place(row), z);
     row::wrote(row, wrote)
 }
 
@@ -220,6 +266,10 @@ pub extern "C" fn tagrumzil_write_double(buf: &mut [u8], row: &mut [u64], bits: 
     let why = row::writer_gate(row, buf.len());
     if why != 0 {
         return why;
+    }
+    let stop = stops::over(row, 8, 0);
+    if stop != 0 {
+        return stop;
     }
     let wrote = numbers::write_le64(buf, row::place(row), bits);
     row::wrote(row, wrote)
@@ -233,6 +283,10 @@ pub extern "C" fn tagrumzil_write_uuid(buf: &mut [u8], row: &mut [u64], uuid: &U
     if why != 0 {
         return why;
     }
+    let stop = stops::plain(row, uuid);
+    if stop != 0 {
+        return stop;
+    }
     let wrote = puts::copy(buf, row::place(row), uuid);
     row::wrote(row, wrote)
 }
@@ -245,9 +299,9 @@ pub extern "C" fn tagrumzil_write_bytes(buf: &mut [u8], row: &mut [u64], blob: &
     if why != 0 {
         return why;
     }
-    let wrong = wrong::length_refusal(blob, row::limits(row));
-    if wrong != 0 {
-        return wrong;
+    let stop = stops::bytes(row, blob);
+    if stop != 0 {
+        return stop;
     }
     let wrote = puts::binary(buf, row::place(row), blob);
     row::wrote(row, wrote)
@@ -262,9 +316,9 @@ pub extern "C" fn tagrumzil_write_string(buf: &mut [u8], row: &mut [u64], text: 
     if why != 0 {
         return why;
     }
-    let wrong = wrong::text_refusal(text, row::limits(row));
-    if wrong != 0 {
-        return wrong;
+    let stop = stops::string(row, text);
+    if stop != 0 {
+        return stop;
     }
     let wrote = puts::binary(buf, row::place(row), text);
     row::wrote(row, wrote)
@@ -281,9 +335,9 @@ fn items_begin(buf: &mut [u8], row: &mut [u64], kind: u8, count: i32) -> u8
     match types::u8_to_type(kind) {
         TypeRead::Refused(no) => no,
         TypeRead::Got(element) => {
-            let wrong = wrong::count_refusal(element, element, count, row::limits(row));
-            if wrong != 0 {
-                return wrong;
+            let stop = stops::items(row, element, count);
+            if stop != 0 {
+                return stop;
             }
             let wrote = puts::items(buf, row::place(row), element, wrong::size_of(count));
             row::wrote(row, wrote)
@@ -323,9 +377,9 @@ fn pairs_begin(buf: &mut [u8], row: &mut [u64], key: TType, value: u8, count: i3
     match types::u8_to_type(value) {
         TypeRead::Refused(no) => no,
         TypeRead::Got(element) => {
-            let wrong = wrong::count_refusal(key, element, count, row::limits(row));
-            if wrong != 0 {
-                return wrong;
+            let stop = stops::pairs(row, key, element, count);
+            if stop != 0 {
+                return stop;
             }
             let wrote = puts::pairs(buf, row::place(row), key, element, wrong::size_of(count));
             row::wrote(row, wrote)
@@ -349,6 +403,10 @@ pub extern "C" fn tagrumzil_write_map_begin(
         return why;
     }
     if count == 0 {
+        let stop = stops::over(row, 1, 0);
+        if stop != 0 {
+            return stop;
+        }
         let wrote = numbers::write_byte(buf, row::place(row), 0);
         return row::wrote(row, wrote);
     }

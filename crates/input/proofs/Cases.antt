@@ -2,16 +2,19 @@
 use mathlib.Core.Path.{_≡_, refl, sym, ap, _∙_}
 use mathlib.Core.List.{List, []}
 use mathlib.Core.Bool.{Bool, true, false}
-use Prim.Native.Nat.{ℕ, _-_, _*_, _≤_, _<_}
+use Prim.Native.Nat.{ℕ, _+_, _-_, _*_, _≤_, _<_, min}
+use native.Mathlib.Nat.{min-eq-left, min-eq-right}
 use native.Mathlib.Omega.{arith}
 use borrow.Author.Needs.{sfits-of}
-use borrow.Author.Tests.{eq-eqb, ne-eqb, le-leb, lt-leb}
-use lib.ListN.{length}
+use borrow.Author.Tests.{eq-eqb, ne-eqb, le-leb, lt-leb, le-ltb, lt-ltb}
+use lib.Dec.{ltb}
+use lib.ListN.{length, take}
+use lib.Seq.{length-take-le}
 use lib.IntN.{ℤ, pos}
 use mir.Syntax.{w64}
 use mir.Val.{Fits}
 use mir.Facts.{toZ-ofZ}
-use Rattle.types.specs.Refusals.{DEPTH, OUT-OF-TURN, BAD-STATE}
+use Rattle.types.specs.Refusals.{END, DEPTH, OUT-OF-TURN, BAD-STATE, MESSAGE-SIZE}
 use Rattle.types.specs.Limits.{inRange}
 use Rattle.types.specs.declared.TType.{TType}
 use Rattle.types.specs.declared.TMessageType.{TMessageType}
@@ -19,7 +22,8 @@ use Rattle.types.specs.declared.Place.{Place}
 use Rattle.types.specs.declared.FieldId.{FieldId}
 use Rattle.types.specs.declared.SeqNo.{SeqNo}
 use Rattle.numbers.specs.Varint.{Found, got, refused}
-use Rattle.heads.specs.Reader.{Reader, readAt}
+use Rattle.heads.specs.Reader.{Reader, readAt, missing, missed, readTo}
+use Rattle.heads.proofs.Cut.{cut-is}
 use Rattle.heads.specs.Heads.{int8, int16, int32, int64, double, truth, uuid, binary, text, itemsHead, pairsHead, Field, stop, bool, value, field, Message, message}
 use Rattle.heads.specs.Answers.{place, idOf, toI8, toI16, toI32, toI64, toDouble, toBool, toPart, toList, toMap, toField, toMessage, int8At, int16At, int32At, int64At, doubleAt, truthAt, uuidAt, binaryAt, textAt, itemsHeadAt, pairsHeadAt, fieldAt, messageAt}
 use Rattle.heads.specs.declared.BoolRead.{BoolRead}
@@ -44,8 +48,8 @@ use Rattle.heads.specs.declared.FieldHead.{FieldHead}
 use Rattle.heads.specs.declared.FieldHead.the-variants as hF
 use Rattle.heads.specs.declared.MessageHead.{MessageHead}
 use Rattle.heads.specs.declared.MessageHead.the-variants as hH
-use Rattle.input.specs.State.{State, sound, gate, movedTo, withLast, withPending, entered, left}
-use Rattle.input.specs.Outcome.{Outcome, answers, declines, from, calls, stays, element, bools, begins, ends, anew, onField}
+use Rattle.input.specs.State.{State, sound, gate, cutOf, begunHere, movedTo, withLast, withPending, entered, left}
+use Rattle.input.specs.Outcome.{Outcome, answers, declines, from, callsTo, calls, cutHere, stays, element, bools, begins, ends, anew, onField}
 use Rattle.input.specs.Answers.{asBool, asI8, asI16, asI32, asI64, asDouble, asPart, asList, asMap, asField, asMessage, asDone}
 use Rattle.input.specs.Calls as call
 use Rattle.input.specs.declared.Awaited.the-variants as W
@@ -64,6 +68,40 @@ use Rattle.input.specs.declared.ReadField.{ReadField}
 use Rattle.input.specs.declared.ReadMessage.{ReadMessage}
 use Rattle.input.proofs.Gate.{top, passes}
 
+-- cut_at
+module _ (begin most len : ℕ) where
+  pub cut-past : len < begin → len ≡ min (begin + most) len
+  cut-past h = sym (min-eq-right (omega arith))
+
+  pub cut-behind : begin ≤ len → len - begin ≤ most → len ≡ min (begin + most) len
+  cut-behind h k = sym (min-eq-right (omega arith))
+
+  pub cut-before : begin ≤ len → most < len - begin → begin + most ≡ min (begin + most) len
+  cut-before h k = sym (min-eq-left (omega arith))
+
+pub ruleset cut-cases = (cut-past, cut-behind, cut-before)
+
+-- the cut lies in the input
+pub cut-inside : (end c len : ℕ) → end ≡ min c len → end ≤ len
+cut-inside end c len o = omega arith
+
+-- and is as many bytes as it says: what the code's `&s[..end]` asks
+pub cut-counts : (s : List ℕ) (end c : ℕ) → end ≡ min c (length s) → end ≡ length (take end s)
+cut-counts s end c o = sym (length-take-le end s (omega arith))
+
+-- missing
+module _ (why end len : ℕ) where
+  pub missing-size : end < len → why ≡ END → MESSAGE-SIZE ≡ missing (ltb end len) why
+  missing-size h e = rw (lt-ltb end len h, eq-eqb why 1 e)
+
+  pub missing-other : end < len → (why ≡ END → ⊥) → why ≡ missing (ltb end len) why
+  missing-other h e = sym (rw (lt-ltb end len h, ne-eqb why 1 e))
+
+  pub missing-none : len ≤ end → why ≡ missing (ltb end len) why
+  missing-none h = sym (rw (le-ltb end len h))
+
+pub ruleset missing-cases = (missing-size, missing-other, missing-none)
+
 -- is_sound
 module _ (len : ℕ) (st : State) (b : Bool) (e : b ≡ inRange (st .limits)) where
   pub sound-range : b ≡ false → false ≡ sound len st
@@ -79,11 +117,21 @@ module _ (len : ℕ) (st : State) (b : Bool) (e : b ≡ inRange (st .limits)) wh
     unfolding sound
     sound-deep k d = rw (← e, h, le-leb _ _ k, lt-leb _ _ d)
 
-    pub sound-yes : st .place .0 ≤ len → st .depth ≤ st .limits .depth → true ≡ sound len st
-    unfolding sound
-    sound-yes k d = rw (← e, h, le-leb _ _ k, le-leb _ _ d)
+    module _ (k : st .place .0 ≤ len) (d : st .depth ≤ st .limits .depth) where
+      pub sound-early : st .place .0 < st .begin .0 → false ≡ sound len st
+      unfolding sound
+      sound-early i = rw (← e, h, le-leb _ _ k, le-leb _ _ d, lt-leb (st .begin .0) _ i)
 
-pub ruleset sound-cases = (sound-range, sound-past, sound-deep, sound-yes)
+      module _ (i : st .begin .0 ≤ st .place .0) where
+        pub sound-over : st .limits .message < st .place .0 - st .begin .0 → false ≡ sound len st
+        unfolding sound
+        sound-over j = rw (← e, h, le-leb _ _ k, le-leb _ _ d, le-leb (st .begin .0) _ i, lt-leb (st .place .0) (cutOf st) (omega arith))
+
+        pub sound-yes : st .place .0 - st .begin .0 ≤ st .limits .message → true ≡ sound len st
+        unfolding sound
+        sound-yes j = rw (← e, h, le-leb _ _ k, le-leb _ _ d, le-leb (st .begin .0) _ i, le-leb (st .place .0) (cutOf st) (omega arith))
+
+pub ruleset sound-cases = (sound-range, sound-past, sound-deep, sound-early, sound-over, sound-yes)
 
 -- refusal
 module _ (len : ℕ) (st : State) (b : Bool) (e : b ≡ sound len st) where
@@ -102,243 +150,247 @@ module _ (len : ℕ) (st : State) (b : Bool) (e : b ≡ sound len st) where
 pub ruleset gate-cases = (gate-bad, gate-open, gate-turn)
 
 -- a call that reads: stopped at the gate, or behind it what its reader finds, in the words `of` of what the heads' call answers
-module _ {A R : Type 0} (out : Outcome A → R) (p : State → Reader A) (move : State → A → State) (s : List ℕ) (st : State) (num : ℕ) (e : num ≡ gate (length s) st) where
-  stopped : (num ≡ 0 → ⊥) → out (declines num st) ≡ out (calls p move s st)
-  unfolding calls
+module _ {A R : Type 0} (cut : State → ℕ) (out : Outcome A → R) (p : State → Reader A) (move : State → A → State) (s : List ℕ) (st : State) (num : ℕ) (e : num ≡ gate (length s) st) where
+  stopped : (num ≡ 0 → ⊥) → out (declines num st) ≡ out (callsTo cut p move s st)
+  unfolding callsTo
   stopped h = rw (← e, ne-eqb num 0 h)
 
-module _ {A H R : Type 0} (to : Found A → H) (of : State → H → R) (out : Outcome A → R) (p : State → Reader A) (move : State → A → State) (fit : (st : State) (x : Found A) → of st (to x) ≡ out (from move st x)) (s : List ℕ) (st : State) (num : ℕ) (e : num ≡ gate (length s) st) where
-  told : num ≡ 0 → (r x : H) → r ≡ to (readAt (p st) s (st .place .0)) → r ≡ x → of st x ≡ out (calls p move s st)
-  unfolding calls
-  told h r x f g = rw (← e, eq-eqb num 0 h) (ap (of st) (sym g ∙ f) ∙ fit st (readAt (p st) s (st .place .0)))
+module _ {A H R : Type 0} (cut : State → ℕ) (to : Found A → H) (of : Bool → State → H → R) (out : Outcome A → R) (p : State → Reader A) (move : State → A → State) (fit : (m : Bool) (st : State) (x : Found A) → of m st (to x) ≡ out (from move st (missed m x))) (s : List ℕ) (st : State) (num : ℕ) (e : num ≡ gate (length s) st) where
+  told : num ≡ 0 → (end : ℕ) → end ≡ min (cut st) (length s) → (r x : H) → r ≡ to (readAt (p st) (take end s) (st .place .0)) → r ≡ x → of (ltb end (length s)) st x ≡ out (callsTo cut p move s st)
+  unfolding callsTo
+  told h end o r x f g =
+      rw (← e, eq-eqb num 0 h)
+      (ap (of (ltb end (length s)) st) (sym g ∙ f)
+      ∙ fit (ltb end (length s)) st (readAt (p st) (take end s) (st .place .0))
+      ∙ ap (λ (y : Found A). out (from move st y)) (sym (cut-is (p st) s (cut st) (st .place .0) end o)))
 
 -- read_i8
-abbrev ofI8 : State → I8Read → ReadI8
-ofI8 st (h8.Got z q) = asI8 (answers z (movedTo st q))
-ofI8 st (h8.Refused why) = asI8 (declines why st)
+abbrev ofI8 : Bool → State → I8Read → ReadI8
+ofI8 m st (h8.Got z q) = asI8 (answers z (movedTo st q))
+ofI8 m st (h8.Refused why) = asI8 (declines (missing m why) st)
 
-fitI8 : (st : State) (x : Found ℤ) → ofI8 st (toI8 x) ≡ asI8 (from stays st x)
-fitI8 st (got z e) = refl
-fitI8 st (refused why) = refl
+fitI8 : (m : Bool) (st : State) (x : Found ℤ) → ofI8 m st (toI8 x) ≡ asI8 (from stays st (missed m x))
+fitI8 m st (got z e) = refl
+fitI8 m st (refused why) = refl
 
 module _ (s : List ℕ) (st : State) (num : ℕ) (e : num ≡ gate (length s) st) where
   pub i8-stopped : (num ≡ 0 → ⊥) → asI8 (declines num st) ≡ call.readI8 s st
   unfolding call.readI8
-  i8-stopped h = stopped asI8 (λ st. int8) stays s st num e h
+  i8-stopped h = stopped cutOf asI8 (λ st. int8) stays s st num e h
 
-  module _ (h : num ≡ 0) (r : I8Read) (f : r ≡ int8At s (st .place .0)) where
-    i8-is : (x : I8Read) → r ≡ x → ofI8 st x ≡ call.readI8 s st
+  module _ (h : num ≡ 0) (end : ℕ) (o : end ≡ min (cutOf st) (length s)) (r : I8Read) (f : r ≡ int8At (take end s) (st .place .0)) where
+    i8-is : (x : I8Read) → r ≡ x → ofI8 (ltb end (length s)) st x ≡ call.readI8 s st
     unfolding call.readI8 int8At
-    i8-is x g = told toI8 ofI8 asI8 (λ st. int8) stays fitI8 s st num e h r x f g
+    i8-is x g = told cutOf toI8 ofI8 asI8 (λ st. int8) stays fitI8 s st num e h end o r x f g
 
-    pub i8-got : (z : ℤ) (q : Place) → r ≡ h8.Got z q → ofI8 st (h8.Got z q) ≡ call.readI8 s st
+    pub i8-got : (z : ℤ) (q : Place) → r ≡ h8.Got z q → ofI8 (ltb end (length s)) st (h8.Got z q) ≡ call.readI8 s st
     i8-got z q g = i8-is (h8.Got z q) g
 
-    pub i8-no : (why : ℕ) → r ≡ h8.Refused why → ofI8 st (h8.Refused why) ≡ call.readI8 s st
-    i8-no why g = i8-is (h8.Refused why) g
+    pub i8-no : (why n : ℕ) → r ≡ h8.Refused why → n ≡ missing (ltb end (length s)) why → asI8 (declines n st) ≡ call.readI8 s st
+    i8-no why n g k = ap (λ (i : ℕ). asI8 (declines i st)) k ∙ i8-is (h8.Refused why) g
 
-pub ruleset i8-cases = (i8-stopped, i8-got, i8-no, toZ-ofZ, sfits-of)
+pub ruleset i8-cases = (cut-inside, cut-counts, i8-stopped, i8-got, i8-no, toZ-ofZ, sfits-of)
 
 -- read_i16
-abbrev ofI16 : State → I16Read → ReadI16
-ofI16 st (h16.Got z q) = asI16 (answers z (movedTo st q))
-ofI16 st (h16.Refused why) = asI16 (declines why st)
+abbrev ofI16 : Bool → State → I16Read → ReadI16
+ofI16 m st (h16.Got z q) = asI16 (answers z (movedTo st q))
+ofI16 m st (h16.Refused why) = asI16 (declines (missing m why) st)
 
-fitI16 : (st : State) (x : Found ℤ) → ofI16 st (toI16 x) ≡ asI16 (from stays st x)
-fitI16 st (got z e) = refl
-fitI16 st (refused why) = refl
+fitI16 : (m : Bool) (st : State) (x : Found ℤ) → ofI16 m st (toI16 x) ≡ asI16 (from stays st (missed m x))
+fitI16 m st (got z e) = refl
+fitI16 m st (refused why) = refl
 
 module _ (s : List ℕ) (st : State) (num : ℕ) (e : num ≡ gate (length s) st) where
   pub i16-stopped : (num ≡ 0 → ⊥) → asI16 (declines num st) ≡ call.readI16 s st
   unfolding call.readI16
-  i16-stopped h = stopped asI16 (λ st. int16) stays s st num e h
+  i16-stopped h = stopped cutOf asI16 (λ st. int16) stays s st num e h
 
-  module _ (h : num ≡ 0) (r : I16Read) (f : r ≡ int16At s (st .place .0)) where
-    i16-is : (x : I16Read) → r ≡ x → ofI16 st x ≡ call.readI16 s st
+  module _ (h : num ≡ 0) (end : ℕ) (o : end ≡ min (cutOf st) (length s)) (r : I16Read) (f : r ≡ int16At (take end s) (st .place .0)) where
+    i16-is : (x : I16Read) → r ≡ x → ofI16 (ltb end (length s)) st x ≡ call.readI16 s st
     unfolding call.readI16 int16At
-    i16-is x g = told toI16 ofI16 asI16 (λ st. int16) stays fitI16 s st num e h r x f g
+    i16-is x g = told cutOf toI16 ofI16 asI16 (λ st. int16) stays fitI16 s st num e h end o r x f g
 
-    pub i16-got : (z : ℤ) (q : Place) → r ≡ h16.Got z q → ofI16 st (h16.Got z q) ≡ call.readI16 s st
+    pub i16-got : (z : ℤ) (q : Place) → r ≡ h16.Got z q → ofI16 (ltb end (length s)) st (h16.Got z q) ≡ call.readI16 s st
     i16-got z q g = i16-is (h16.Got z q) g
 
-    pub i16-no : (why : ℕ) → r ≡ h16.Refused why → ofI16 st (h16.Refused why) ≡ call.readI16 s st
-    i16-no why g = i16-is (h16.Refused why) g
+    pub i16-no : (why n : ℕ) → r ≡ h16.Refused why → n ≡ missing (ltb end (length s)) why → asI16 (declines n st) ≡ call.readI16 s st
+    i16-no why n g k = ap (λ (i : ℕ). asI16 (declines i st)) k ∙ i16-is (h16.Refused why) g
 
-pub ruleset i16-cases = (i16-stopped, i16-got, i16-no, toZ-ofZ, sfits-of)
+pub ruleset i16-cases = (cut-inside, cut-counts, i16-stopped, i16-got, i16-no, toZ-ofZ, sfits-of)
 
 -- read_i32
-abbrev ofI32 : State → I32Read → ReadI32
-ofI32 st (h32.Got z q) = asI32 (answers z (movedTo st q))
-ofI32 st (h32.Refused why) = asI32 (declines why st)
+abbrev ofI32 : Bool → State → I32Read → ReadI32
+ofI32 m st (h32.Got z q) = asI32 (answers z (movedTo st q))
+ofI32 m st (h32.Refused why) = asI32 (declines (missing m why) st)
 
-fitI32 : (st : State) (x : Found ℤ) → ofI32 st (toI32 x) ≡ asI32 (from stays st x)
-fitI32 st (got z e) = refl
-fitI32 st (refused why) = refl
+fitI32 : (m : Bool) (st : State) (x : Found ℤ) → ofI32 m st (toI32 x) ≡ asI32 (from stays st (missed m x))
+fitI32 m st (got z e) = refl
+fitI32 m st (refused why) = refl
 
 module _ (s : List ℕ) (st : State) (num : ℕ) (e : num ≡ gate (length s) st) where
   pub i32-stopped : (num ≡ 0 → ⊥) → asI32 (declines num st) ≡ call.readI32 s st
   unfolding call.readI32
-  i32-stopped h = stopped asI32 (λ st. int32) stays s st num e h
+  i32-stopped h = stopped cutOf asI32 (λ st. int32) stays s st num e h
 
-  module _ (h : num ≡ 0) (r : I32Read) (f : r ≡ int32At s (st .place .0)) where
-    i32-is : (x : I32Read) → r ≡ x → ofI32 st x ≡ call.readI32 s st
+  module _ (h : num ≡ 0) (end : ℕ) (o : end ≡ min (cutOf st) (length s)) (r : I32Read) (f : r ≡ int32At (take end s) (st .place .0)) where
+    i32-is : (x : I32Read) → r ≡ x → ofI32 (ltb end (length s)) st x ≡ call.readI32 s st
     unfolding call.readI32 int32At
-    i32-is x g = told toI32 ofI32 asI32 (λ st. int32) stays fitI32 s st num e h r x f g
+    i32-is x g = told cutOf toI32 ofI32 asI32 (λ st. int32) stays fitI32 s st num e h end o r x f g
 
-    pub i32-got : (z : ℤ) (q : Place) → r ≡ h32.Got z q → ofI32 st (h32.Got z q) ≡ call.readI32 s st
+    pub i32-got : (z : ℤ) (q : Place) → r ≡ h32.Got z q → ofI32 (ltb end (length s)) st (h32.Got z q) ≡ call.readI32 s st
     i32-got z q g = i32-is (h32.Got z q) g
 
-    pub i32-no : (why : ℕ) → r ≡ h32.Refused why → ofI32 st (h32.Refused why) ≡ call.readI32 s st
-    i32-no why g = i32-is (h32.Refused why) g
+    pub i32-no : (why n : ℕ) → r ≡ h32.Refused why → n ≡ missing (ltb end (length s)) why → asI32 (declines n st) ≡ call.readI32 s st
+    i32-no why n g k = ap (λ (i : ℕ). asI32 (declines i st)) k ∙ i32-is (h32.Refused why) g
 
-pub ruleset i32-cases = (i32-stopped, i32-got, i32-no, toZ-ofZ, sfits-of)
+pub ruleset i32-cases = (cut-inside, cut-counts, i32-stopped, i32-got, i32-no, toZ-ofZ, sfits-of)
 
 -- read_i64
-abbrev ofI64 : State → I64Read → ReadI64
-ofI64 st (h64.Got z q) = asI64 (answers z (movedTo st q))
-ofI64 st (h64.Refused why) = asI64 (declines why st)
+abbrev ofI64 : Bool → State → I64Read → ReadI64
+ofI64 m st (h64.Got z q) = asI64 (answers z (movedTo st q))
+ofI64 m st (h64.Refused why) = asI64 (declines (missing m why) st)
 
-fitI64 : (st : State) (x : Found ℤ) → ofI64 st (toI64 x) ≡ asI64 (from stays st x)
-fitI64 st (got z e) = refl
-fitI64 st (refused why) = refl
+fitI64 : (m : Bool) (st : State) (x : Found ℤ) → ofI64 m st (toI64 x) ≡ asI64 (from stays st (missed m x))
+fitI64 m st (got z e) = refl
+fitI64 m st (refused why) = refl
 
 module _ (s : List ℕ) (st : State) (num : ℕ) (e : num ≡ gate (length s) st) where
   pub i64-stopped : (num ≡ 0 → ⊥) → asI64 (declines num st) ≡ call.readI64 s st
   unfolding call.readI64
-  i64-stopped h = stopped asI64 (λ st. int64) stays s st num e h
+  i64-stopped h = stopped cutOf asI64 (λ st. int64) stays s st num e h
 
-  module _ (h : num ≡ 0) (r : I64Read) (f : r ≡ int64At s (st .place .0)) where
-    i64-is : (x : I64Read) → r ≡ x → ofI64 st x ≡ call.readI64 s st
+  module _ (h : num ≡ 0) (end : ℕ) (o : end ≡ min (cutOf st) (length s)) (r : I64Read) (f : r ≡ int64At (take end s) (st .place .0)) where
+    i64-is : (x : I64Read) → r ≡ x → ofI64 (ltb end (length s)) st x ≡ call.readI64 s st
     unfolding call.readI64 int64At
-    i64-is x g = told toI64 ofI64 asI64 (λ st. int64) stays fitI64 s st num e h r x f g
+    i64-is x g = told cutOf toI64 ofI64 asI64 (λ st. int64) stays fitI64 s st num e h end o r x f g
 
-    pub i64-got : (z : ℤ) (q : Place) → r ≡ h64.Got z q → ofI64 st (h64.Got z q) ≡ call.readI64 s st
+    pub i64-got : (z : ℤ) (q : Place) → r ≡ h64.Got z q → ofI64 (ltb end (length s)) st (h64.Got z q) ≡ call.readI64 s st
     i64-got z q g = i64-is (h64.Got z q) g
 
-    pub i64-no : (why : ℕ) → r ≡ h64.Refused why → ofI64 st (h64.Refused why) ≡ call.readI64 s st
-    i64-no why g = i64-is (h64.Refused why) g
+    pub i64-no : (why n : ℕ) → r ≡ h64.Refused why → n ≡ missing (ltb end (length s)) why → asI64 (declines n st) ≡ call.readI64 s st
+    i64-no why n g k = ap (λ (i : ℕ). asI64 (declines i st)) k ∙ i64-is (h64.Refused why) g
 
-pub ruleset i64-cases = (i64-stopped, i64-got, i64-no, toZ-ofZ, sfits-of)
+pub ruleset i64-cases = (cut-inside, cut-counts, i64-stopped, i64-got, i64-no, toZ-ofZ, sfits-of)
 
 -- read_double
-abbrev ofDouble : State → DoubleRead → ReadDouble
-ofDouble st (hD.Got n q) = asDouble (answers n (movedTo st q))
-ofDouble st (hD.Refused why) = asDouble (declines why st)
+abbrev ofDouble : Bool → State → DoubleRead → ReadDouble
+ofDouble m st (hD.Got n q) = asDouble (answers n (movedTo st q))
+ofDouble m st (hD.Refused why) = asDouble (declines (missing m why) st)
 
-fitDouble : (st : State) (x : Found ℕ) → ofDouble st (toDouble x) ≡ asDouble (from stays st x)
-fitDouble st (got n e) = refl
-fitDouble st (refused why) = refl
+fitDouble : (m : Bool) (st : State) (x : Found ℕ) → ofDouble m st (toDouble x) ≡ asDouble (from stays st (missed m x))
+fitDouble m st (got n e) = refl
+fitDouble m st (refused why) = refl
 
 module _ (s : List ℕ) (st : State) (num : ℕ) (e : num ≡ gate (length s) st) where
   pub double-stopped : (num ≡ 0 → ⊥) → asDouble (declines num st) ≡ call.readDouble s st
   unfolding call.readDouble
-  double-stopped h = stopped asDouble (λ st. double) stays s st num e h
+  double-stopped h = stopped cutOf asDouble (λ st. double) stays s st num e h
 
-  module _ (h : num ≡ 0) (r : DoubleRead) (f : r ≡ doubleAt s (st .place .0)) where
-    double-is : (x : DoubleRead) → r ≡ x → ofDouble st x ≡ call.readDouble s st
+  module _ (h : num ≡ 0) (end : ℕ) (o : end ≡ min (cutOf st) (length s)) (r : DoubleRead) (f : r ≡ doubleAt (take end s) (st .place .0)) where
+    double-is : (x : DoubleRead) → r ≡ x → ofDouble (ltb end (length s)) st x ≡ call.readDouble s st
     unfolding call.readDouble doubleAt
-    double-is x g = told toDouble ofDouble asDouble (λ st. double) stays fitDouble s st num e h r x f g
+    double-is x g = told cutOf toDouble ofDouble asDouble (λ st. double) stays fitDouble s st num e h end o r x f g
 
-    pub double-got : (n : ℕ) (q : Place) → r ≡ hD.Got n q → ofDouble st (hD.Got n q) ≡ call.readDouble s st
+    pub double-got : (n : ℕ) (q : Place) → r ≡ hD.Got n q → ofDouble (ltb end (length s)) st (hD.Got n q) ≡ call.readDouble s st
     double-got n q g = double-is (hD.Got n q) g
 
-    pub double-no : (why : ℕ) → r ≡ hD.Refused why → ofDouble st (hD.Refused why) ≡ call.readDouble s st
-    double-no why g = double-is (hD.Refused why) g
+    pub double-no : (why n : ℕ) → r ≡ hD.Refused why → n ≡ missing (ltb end (length s)) why → asDouble (declines n st) ≡ call.readDouble s st
+    double-no why n g k = ap (λ (i : ℕ). asDouble (declines i st)) k ∙ double-is (hD.Refused why) g
 
-pub ruleset double-cases = (double-stopped, double-got, double-no, toZ-ofZ, sfits-of)
+pub ruleset double-cases = (cut-inside, cut-counts, double-stopped, double-got, double-no, toZ-ofZ, sfits-of)
 
 -- read_uuid, read_bytes, read_string: the places
 abbrev partAs : State → Place → Place → ReadPart
 partAs st a z = record { answer = P.Got a z; state = movedTo st z }
 
-abbrev ofPart : State → PartRead → ReadPart
-ofPart st (hP.Got a z) = partAs st a z
-ofPart st (hP.Refused why) = asPart (declines why st)
+abbrev ofPart : Bool → State → PartRead → ReadPart
+ofPart m st (hP.Got a z) = partAs st a z
+ofPart m st (hP.Refused why) = asPart (declines (missing m why) st)
 
-fitPart : (st : State) (x : Found (List ℕ)) → ofPart st (toPart x) ≡ asPart (from stays st x)
-fitPart st (got bs e) = refl
-fitPart st (refused why) = refl
+fitPart : (m : Bool) (st : State) (x : Found (List ℕ)) → ofPart m st (toPart x) ≡ asPart (from stays st (missed m x))
+fitPart m st (got bs e) = refl
+fitPart m st (refused why) = refl
 
 module _ (s : List ℕ) (st : State) (num : ℕ) (e : num ≡ gate (length s) st) where
   pub uuid-stopped : (num ≡ 0 → ⊥) → asPart (declines num st) ≡ call.readUuid s st
   unfolding call.readUuid
-  uuid-stopped h = stopped asPart (λ st. uuid) stays s st num e h
+  uuid-stopped h = stopped cutOf asPart (λ st. uuid) stays s st num e h
 
-  module _ (h : num ≡ 0) (r : PartRead) (f : r ≡ uuidAt s (st .place .0)) where
-    uuid-is : (x : PartRead) → r ≡ x → ofPart st x ≡ call.readUuid s st
+  module _ (h : num ≡ 0) (end : ℕ) (o : end ≡ min (cutOf st) (length s)) (r : PartRead) (f : r ≡ uuidAt (take end s) (st .place .0)) where
+    uuid-is : (x : PartRead) → r ≡ x → ofPart (ltb end (length s)) st x ≡ call.readUuid s st
     unfolding call.readUuid uuidAt
-    uuid-is x g = told toPart ofPart asPart (λ st. uuid) stays fitPart s st num e h r x f g
+    uuid-is x g = told cutOf toPart ofPart asPart (λ st. uuid) stays fitPart s st num e h end o r x f g
 
-    pub uuid-got : (a : Place) (z : Place) → r ≡ hP.Got a z → ofPart st (hP.Got a z) ≡ call.readUuid s st
+    pub uuid-got : (a : Place) (z : Place) → r ≡ hP.Got a z → ofPart (ltb end (length s)) st (hP.Got a z) ≡ call.readUuid s st
     uuid-got a z g = uuid-is (hP.Got a z) g
 
-    pub uuid-no : (why : ℕ) → r ≡ hP.Refused why → ofPart st (hP.Refused why) ≡ call.readUuid s st
-    uuid-no why g = uuid-is (hP.Refused why) g
+    pub uuid-no : (why n : ℕ) → r ≡ hP.Refused why → n ≡ missing (ltb end (length s)) why → asPart (declines n st) ≡ call.readUuid s st
+    uuid-no why n g k = ap (λ (i : ℕ). asPart (declines i st)) k ∙ uuid-is (hP.Refused why) g
 
-pub ruleset uuid-cases = (uuid-stopped, uuid-got, uuid-no, toZ-ofZ, sfits-of)
+pub ruleset uuid-cases = (cut-inside, cut-counts, uuid-stopped, uuid-got, uuid-no, toZ-ofZ, sfits-of)
 
 module _ (s : List ℕ) (st : State) (num : ℕ) (e : num ≡ gate (length s) st) where
   pub bytes-stopped : (num ≡ 0 → ⊥) → asPart (declines num st) ≡ call.readBytes s st
   unfolding call.readBytes
-  bytes-stopped h = stopped asPart (λ st. binary (st .limits)) stays s st num e h
+  bytes-stopped h = stopped cutOf asPart (λ st. binary (st .limits)) stays s st num e h
 
-  module _ (h : num ≡ 0) (r : PartRead) (f : r ≡ binaryAt s (st .limits) (st .place .0)) where
-    bytes-is : (x : PartRead) → r ≡ x → ofPart st x ≡ call.readBytes s st
+  module _ (h : num ≡ 0) (end : ℕ) (o : end ≡ min (cutOf st) (length s)) (r : PartRead) (f : r ≡ binaryAt (take end s) (st .limits) (st .place .0)) where
+    bytes-is : (x : PartRead) → r ≡ x → ofPart (ltb end (length s)) st x ≡ call.readBytes s st
     unfolding call.readBytes binaryAt
-    bytes-is x g = told toPart ofPart asPart (λ st. binary (st .limits)) stays fitPart s st num e h r x f g
+    bytes-is x g = told cutOf toPart ofPart asPart (λ st. binary (st .limits)) stays fitPart s st num e h end o r x f g
 
-    pub bytes-got : (a : Place) (z : Place) → r ≡ hP.Got a z → ofPart st (hP.Got a z) ≡ call.readBytes s st
+    pub bytes-got : (a : Place) (z : Place) → r ≡ hP.Got a z → ofPart (ltb end (length s)) st (hP.Got a z) ≡ call.readBytes s st
     bytes-got a z g = bytes-is (hP.Got a z) g
 
-    pub bytes-no : (why : ℕ) → r ≡ hP.Refused why → ofPart st (hP.Refused why) ≡ call.readBytes s st
-    bytes-no why g = bytes-is (hP.Refused why) g
+    pub bytes-no : (why n : ℕ) → r ≡ hP.Refused why → n ≡ missing (ltb end (length s)) why → asPart (declines n st) ≡ call.readBytes s st
+    bytes-no why n g k = ap (λ (i : ℕ). asPart (declines i st)) k ∙ bytes-is (hP.Refused why) g
 
-pub ruleset bytes-cases = (bytes-stopped, bytes-got, bytes-no, toZ-ofZ, sfits-of)
+pub ruleset bytes-cases = (cut-inside, cut-counts, bytes-stopped, bytes-got, bytes-no, toZ-ofZ, sfits-of)
 
 module _ (s : List ℕ) (st : State) (num : ℕ) (e : num ≡ gate (length s) st) where
   pub string-stopped : (num ≡ 0 → ⊥) → asPart (declines num st) ≡ call.readString s st
   unfolding call.readString
-  string-stopped h = stopped asPart (λ st. text (st .limits)) stays s st num e h
+  string-stopped h = stopped cutOf asPart (λ st. text (st .limits)) stays s st num e h
 
-  module _ (h : num ≡ 0) (r : PartRead) (f : r ≡ textAt s (st .limits) (st .place .0)) where
-    string-is : (x : PartRead) → r ≡ x → ofPart st x ≡ call.readString s st
+  module _ (h : num ≡ 0) (end : ℕ) (o : end ≡ min (cutOf st) (length s)) (r : PartRead) (f : r ≡ textAt (take end s) (st .limits) (st .place .0)) where
+    string-is : (x : PartRead) → r ≡ x → ofPart (ltb end (length s)) st x ≡ call.readString s st
     unfolding call.readString textAt
-    string-is x g = told toPart ofPart asPart (λ st. text (st .limits)) stays fitPart s st num e h r x f g
+    string-is x g = told cutOf toPart ofPart asPart (λ st. text (st .limits)) stays fitPart s st num e h end o r x f g
 
-    pub string-got : (a : Place) (z : Place) → r ≡ hP.Got a z → ofPart st (hP.Got a z) ≡ call.readString s st
+    pub string-got : (a : Place) (z : Place) → r ≡ hP.Got a z → ofPart (ltb end (length s)) st (hP.Got a z) ≡ call.readString s st
     string-got a z g = string-is (hP.Got a z) g
 
-    pub string-no : (why : ℕ) → r ≡ hP.Refused why → ofPart st (hP.Refused why) ≡ call.readString s st
-    string-no why g = string-is (hP.Refused why) g
+    pub string-no : (why n : ℕ) → r ≡ hP.Refused why → n ≡ missing (ltb end (length s)) why → asPart (declines n st) ≡ call.readString s st
+    string-no why n g k = ap (λ (i : ℕ). asPart (declines i st)) k ∙ string-is (hP.Refused why) g
 
-pub ruleset string-cases = (string-stopped, string-got, string-no, toZ-ofZ, sfits-of)
+pub ruleset string-cases = (cut-inside, cut-counts, string-stopped, string-got, string-no, toZ-ofZ, sfits-of)
 
 -- read_list_begin
-abbrev ofList : State → ListHead → ReadList
-ofList st (hL.Got t n q) = asList (answers (t, n) (movedTo st q))
-ofList st (hL.Refused why) = asList (declines why st)
+abbrev ofList : Bool → State → ListHead → ReadList
+ofList m st (hL.Got t n q) = asList (answers (t, n) (movedTo st q))
+ofList m st (hL.Refused why) = asList (declines (missing m why) st)
 
-fitList : (st : State) (x : Found (TType × ℕ)) → ofList st (toList x) ≡ asList (from stays st x)
-fitList st (got a e) = refl
-fitList st (refused why) = refl
+fitList : (m : Bool) (st : State) (x : Found (TType × ℕ)) → ofList m st (toList x) ≡ asList (from stays st (missed m x))
+fitList m st (got a e) = refl
+fitList m st (refused why) = refl
 
 module _ (s : List ℕ) (st : State) (num : ℕ) (e : num ≡ gate (length s) st) where
   pub list-stopped : (num ≡ 0 → ⊥) → asList (declines num st) ≡ call.readList s st
   unfolding call.readList
-  list-stopped h = stopped asList (λ st. itemsHead (st .limits)) stays s st num e h
+  list-stopped h = stopped cutOf asList (λ st. itemsHead (st .limits)) stays s st num e h
 
-  module _ (h : num ≡ 0) (r : ListHead) (f : r ≡ itemsHeadAt s (st .limits) (st .place .0)) where
-    list-is : (x : ListHead) → r ≡ x → ofList st x ≡ call.readList s st
+  module _ (h : num ≡ 0) (end : ℕ) (o : end ≡ min (cutOf st) (length s)) (r : ListHead) (f : r ≡ itemsHeadAt (take end s) (st .limits) (st .place .0)) where
+    list-is : (x : ListHead) → r ≡ x → ofList (ltb end (length s)) st x ≡ call.readList s st
     unfolding call.readList itemsHeadAt
-    list-is x g = told toList ofList asList (λ st. itemsHead (st .limits)) stays fitList s st num e h r x f g
+    list-is x g = told cutOf toList ofList asList (λ st. itemsHead (st .limits)) stays fitList s st num e h end o r x f g
 
-    pub list-got : (t : TType) (n : ℕ) (q : Place) → r ≡ hL.Got t n q → ofList st (hL.Got t n q) ≡ call.readList s st
+    pub list-got : (t : TType) (n : ℕ) (q : Place) → r ≡ hL.Got t n q → ofList (ltb end (length s)) st (hL.Got t n q) ≡ call.readList s st
     list-got t n q g = list-is (hL.Got t n q) g
 
-    pub list-no : (why : ℕ) → r ≡ hL.Refused why → ofList st (hL.Refused why) ≡ call.readList s st
-    list-no why g = list-is (hL.Refused why) g
+    pub list-no : (why n : ℕ) → r ≡ hL.Refused why → n ≡ missing (ltb end (length s)) why → asList (declines n st) ≡ call.readList s st
+    list-no why n g k = ap (λ (i : ℕ). asList (declines i st)) k ∙ list-is (hL.Refused why) g
 
-pub ruleset list-cases = (list-stopped, list-got, list-no, toZ-ofZ, sfits-of)
+pub ruleset list-cases = (cut-inside, cut-counts, list-stopped, list-got, list-no, toZ-ofZ, sfits-of)
 
 -- a set's header is a list's
 pub set-is : (s : List ℕ) (st : State) (r : ReadList) → r ≡ call.readList s st → r ≡ call.readSet s st
@@ -346,117 +398,120 @@ unfolding call.readList call.readSet
 set-is s st r e = e
 
 -- read_map_begin
-abbrev ofMap : State → MapHead → ReadMap
-ofMap st (hM.Got k v n q) = asMap (answers (k, v, n) (movedTo st q))
-ofMap st (hM.Refused why) = asMap (declines why st)
+abbrev ofMap : Bool → State → MapHead → ReadMap
+ofMap m st (hM.Got k v n q) = asMap (answers (k, v, n) (movedTo st q))
+ofMap m st (hM.Refused why) = asMap (declines (missing m why) st)
 
-fitMap : (st : State) (x : Found (TType × TType × ℕ)) → ofMap st (toMap x) ≡ asMap (from stays st x)
-fitMap st (got a e) = refl
-fitMap st (refused why) = refl
+fitMap : (m : Bool) (st : State) (x : Found (TType × TType × ℕ)) → ofMap m st (toMap x) ≡ asMap (from stays st (missed m x))
+fitMap m st (got a e) = refl
+fitMap m st (refused why) = refl
 
 module _ (s : List ℕ) (st : State) (num : ℕ) (e : num ≡ gate (length s) st) where
   pub map-stopped : (num ≡ 0 → ⊥) → asMap (declines num st) ≡ call.readMap s st
   unfolding call.readMap
-  map-stopped h = stopped asMap (λ st. pairsHead (st .limits)) stays s st num e h
+  map-stopped h = stopped cutOf asMap (λ st. pairsHead (st .limits)) stays s st num e h
 
-  module _ (h : num ≡ 0) (r : MapHead) (f : r ≡ pairsHeadAt s (st .limits) (st .place .0)) where
-    map-is : (x : MapHead) → r ≡ x → ofMap st x ≡ call.readMap s st
+  module _ (h : num ≡ 0) (end : ℕ) (o : end ≡ min (cutOf st) (length s)) (r : MapHead) (f : r ≡ pairsHeadAt (take end s) (st .limits) (st .place .0)) where
+    map-is : (x : MapHead) → r ≡ x → ofMap (ltb end (length s)) st x ≡ call.readMap s st
     unfolding call.readMap pairsHeadAt
-    map-is x g = told toMap ofMap asMap (λ st. pairsHead (st .limits)) stays fitMap s st num e h r x f g
+    map-is x g = told cutOf toMap ofMap asMap (λ st. pairsHead (st .limits)) stays fitMap s st num e h end o r x f g
 
-    pub map-got : (k : TType) (v : TType) (n : ℕ) (q : Place) → r ≡ hM.Got k v n q → ofMap st (hM.Got k v n q) ≡ call.readMap s st
+    pub map-got : (k : TType) (v : TType) (n : ℕ) (q : Place) → r ≡ hM.Got k v n q → ofMap (ltb end (length s)) st (hM.Got k v n q) ≡ call.readMap s st
     map-got k v n q g = map-is (hM.Got k v n q) g
 
-    pub map-no : (why : ℕ) → r ≡ hM.Refused why → ofMap st (hM.Refused why) ≡ call.readMap s st
-    map-no why g = map-is (hM.Refused why) g
+    pub map-no : (why n : ℕ) → r ≡ hM.Refused why → n ≡ missing (ltb end (length s)) why → asMap (declines n st) ≡ call.readMap s st
+    map-no why n g k = ap (λ (i : ℕ). asMap (declines i st)) k ∙ map-is (hM.Refused why) g
 
-pub ruleset map-cases = (map-stopped, map-got, map-no, toZ-ofZ, sfits-of)
+pub ruleset map-cases = (cut-inside, cut-counts, map-stopped, map-got, map-no, toZ-ofZ, sfits-of)
 
 -- read_field_begin
-abbrev ofField : State → FieldHead → ReadField
-ofField st (hF.Stop q) = asField (answers stop (movedTo st q))
-ofField st (hF.Bool b id q) = asField (answers (bool b (id .0)) (movedTo (withPending (withLast st id) (W.Truth b)) q))
-ofField st (hF.Value t id q) = asField (answers (value t (id .0)) (movedTo (withLast st id) q))
-ofField st (hF.Refused why) = asField (declines why st)
+abbrev ofField : Bool → State → FieldHead → ReadField
+ofField m st (hF.Stop q) = asField (answers stop (movedTo st q))
+ofField m st (hF.Bool b id q) = asField (answers (bool b (id .0)) (movedTo (withPending (withLast st id) (W.Truth b)) q))
+ofField m st (hF.Value t id q) = asField (answers (value t (id .0)) (movedTo (withLast st id) q))
+ofField m st (hF.Refused why) = asField (declines (missing m why) st)
 
-fitField : (st : State) (x : Found Field) → ofField st (toField x) ≡ asField (from onField st x)
-fitField st (got stop e) = refl
-fitField st (got (bool b id) e) = refl
-fitField st (got (value t id) e) = refl
-fitField st (refused why) = refl
+fitField : (m : Bool) (st : State) (x : Found Field) → ofField m st (toField x) ≡ asField (from onField st (missed m x))
+fitField m st (got stop e) = refl
+fitField m st (got (bool b id) e) = refl
+fitField m st (got (value t id) e) = refl
+fitField m st (refused why) = refl
 
 module _ (s : List ℕ) (st : State) (num : ℕ) (e : num ≡ gate (length s) st) where
   pub field-stopped : (num ≡ 0 → ⊥) → asField (declines num st) ≡ call.readField s st
   unfolding call.readField
-  field-stopped h = stopped asField (λ st. field (st .last .0)) onField s st num e h
+  field-stopped h = stopped cutOf asField (λ st. field (st .last .0)) onField s st num e h
 
-  module _ (h : num ≡ 0) (r : FieldHead) (f : r ≡ fieldAt s (st .last .0) (st .place .0)) where
-    field-is : (x : FieldHead) → r ≡ x → ofField st x ≡ call.readField s st
+  module _ (h : num ≡ 0) (end : ℕ) (o : end ≡ min (cutOf st) (length s)) (r : FieldHead) (f : r ≡ fieldAt (take end s) (st .last .0) (st .place .0)) where
+    field-is : (x : FieldHead) → r ≡ x → ofField (ltb end (length s)) st x ≡ call.readField s st
     unfolding call.readField fieldAt
-    field-is x g = told toField ofField asField (λ st. field (st .last .0)) onField fitField s st num e h r x f g
+    field-is x g = told cutOf toField ofField asField (λ st. field (st .last .0)) onField fitField s st num e h end o r x f g
 
-    pub field-stop : (q : Place) → r ≡ hF.Stop q → ofField st (hF.Stop q) ≡ call.readField s st
+    pub field-stop : (q : Place) → r ≡ hF.Stop q → ofField (ltb end (length s)) st (hF.Stop q) ≡ call.readField s st
     field-stop q g = field-is (hF.Stop q) g
 
-    pub field-bool : (b : Bool) (id : FieldId) (q : Place) → r ≡ hF.Bool b id q → ofField st (hF.Bool b id q) ≡ call.readField s st
+    pub field-bool : (b : Bool) (id : FieldId) (q : Place) → r ≡ hF.Bool b id q → ofField (ltb end (length s)) st (hF.Bool b id q) ≡ call.readField s st
     field-bool b id q g = field-is (hF.Bool b id q) g
 
-    pub field-value : (t : TType) (id : FieldId) (q : Place) → r ≡ hF.Value t id q → ofField st (hF.Value t id q) ≡ call.readField s st
+    pub field-value : (t : TType) (id : FieldId) (q : Place) → r ≡ hF.Value t id q → ofField (ltb end (length s)) st (hF.Value t id q) ≡ call.readField s st
     field-value t id q g = field-is (hF.Value t id q) g
 
-    pub field-no : (why : ℕ) → r ≡ hF.Refused why → ofField st (hF.Refused why) ≡ call.readField s st
-    field-no why g = field-is (hF.Refused why) g
+    pub field-no : (why n : ℕ) → r ≡ hF.Refused why → n ≡ missing (ltb end (length s)) why → asField (declines n st) ≡ call.readField s st
+    field-no why n g k = ap (λ (i : ℕ). asField (declines i st)) k ∙ field-is (hF.Refused why) g
 
-pub ruleset field-cases = (field-stopped, field-stop, field-bool, field-value, field-no, toZ-ofZ, sfits-of)
+pub ruleset field-cases = (cut-inside, cut-counts, field-stopped, field-stop, field-bool, field-value, field-no, toZ-ofZ, sfits-of)
 
 -- read_message_begin: the places of the name
-abbrev ofMessage : State → MessageHead → ReadMessage
-ofMessage st (hH.Got m i a z) = record { answer = H.Got m i a z; state = movedTo (withLast st (idOf (pos 0))) z }
-ofMessage st (hH.Refused why) = asMessage (declines why st)
+abbrev ofMessage : Bool → State → MessageHead → ReadMessage
+ofMessage u st (hH.Got m i a z) = record { answer = H.Got m i a z; state = movedTo (withLast (begunHere st) (idOf (pos 0))) z }
+ofMessage u st (hH.Refused why) = asMessage (declines (missing u why) st)
 
-fitMessage : (st : State) (x : Found Message) → ofMessage st (toMessage x) ≡ asMessage (from anew st x)
-fitMessage st (got a e) = refl
-fitMessage st (refused why) = refl
+fitMessage : (u : Bool) (st : State) (x : Found Message) → ofMessage u st (toMessage x) ≡ asMessage (from anew st (missed u x))
+fitMessage u st (got a e) = refl
+fitMessage u st (refused why) = refl
 
 module _ (s : List ℕ) (st : State) (num : ℕ) (e : num ≡ gate (length s) st) where
   pub message-stopped : (num ≡ 0 → ⊥) → asMessage (declines num st) ≡ call.readMessage s st
   unfolding call.readMessage
-  message-stopped h = stopped asMessage (λ st. message (st .limits)) anew s st num e h
+  message-stopped h = stopped cutHere asMessage (λ st. message (st .limits)) anew s st num e h
 
-  module _ (h : num ≡ 0) (r : MessageHead) (f : r ≡ messageAt s (st .limits) (st .place .0)) where
-    message-is : (x : MessageHead) → r ≡ x → ofMessage st x ≡ call.readMessage s st
+  module _ (h : num ≡ 0) (end : ℕ) (o : end ≡ min (cutHere st) (length s)) (r : MessageHead) (f : r ≡ messageAt (take end s) (st .limits) (st .place .0)) where
+    message-is : (x : MessageHead) → r ≡ x → ofMessage (ltb end (length s)) st x ≡ call.readMessage s st
     unfolding call.readMessage messageAt
-    message-is x g = told toMessage ofMessage asMessage (λ st. message (st .limits)) anew fitMessage s st num e h r x f g
+    message-is x g = told cutHere toMessage ofMessage asMessage (λ st. message (st .limits)) anew fitMessage s st num e h end o r x f g
 
-    pub message-got : (m : TMessageType) (i : SeqNo) (a : Place) (z : Place) → r ≡ hH.Got m i a z → ofMessage st (hH.Got m i a z) ≡ call.readMessage s st
+    pub message-got : (m : TMessageType) (i : SeqNo) (a : Place) (z : Place) → r ≡ hH.Got m i a z → ofMessage (ltb end (length s)) st (hH.Got m i a z) ≡ call.readMessage s st
     message-got m i a z g = message-is (hH.Got m i a z) g
 
-    pub message-no : (why : ℕ) → r ≡ hH.Refused why → ofMessage st (hH.Refused why) ≡ call.readMessage s st
-    message-no why g = message-is (hH.Refused why) g
+    pub message-no : (why n : ℕ) → r ≡ hH.Refused why → n ≡ missing (ltb end (length s)) why → asMessage (declines n st) ≡ call.readMessage s st
+    message-no why n g k = ap (λ (i : ℕ). asMessage (declines i st)) k ∙ message-is (hH.Refused why) g
 
-pub ruleset message-cases = (message-stopped, message-got, message-no, toZ-ofZ, sfits-of)
+pub ruleset message-cases = (cut-inside, cut-counts, message-stopped, message-got, message-no, toZ-ofZ, sfits-of)
 
 -- an element's bool
-abbrev ofBool : State → BoolRead → ReadBool
-ofBool st (hB.Got b q) = asBool (answers b (movedTo st q))
-ofBool st (hB.Refused why) = asBool (declines why st)
+abbrev ofBool : Bool → State → BoolRead → ReadBool
+ofBool m st (hB.Got b q) = asBool (answers b (movedTo st q))
+ofBool m st (hB.Refused why) = asBool (declines (missing m why) st)
 
-fitBool : (st : State) (x : Found Bool) → ofBool st (toBool x) ≡ asBool (from stays st x)
-fitBool st (got b e) = refl
-fitBool st (refused why) = refl
+fitBool : (m : Bool) (st : State) (x : Found Bool) → ofBool m st (toBool x) ≡ asBool (from stays st (missed m x))
+fitBool m st (got b e) = refl
+fitBool m st (refused why) = refl
 
-module _ (s : List ℕ) (st : State) (r : BoolRead) (f : r ≡ truthAt s (st .place .0)) where
-  element-is : (x : BoolRead) → r ≡ x → ofBool st x ≡ call.elementBool s st
+module _ (s : List ℕ) (st : State) (end : ℕ) (o : end ≡ min (cutOf st) (length s)) (r : BoolRead) (f : r ≡ truthAt (take end s) (st .place .0)) where
+  element-is : (x : BoolRead) → r ≡ x → ofBool (ltb end (length s)) st x ≡ call.elementBool s st
   unfolding call.elementBool element truthAt
-  element-is x g = ap (ofBool st) (sym g ∙ f) ∙ fitBool st (readAt truth s (st .place .0))
+  element-is x g =
+      ap (ofBool (ltb end (length s)) st) (sym g ∙ f)
+      ∙ fitBool (ltb end (length s)) st (readAt truth (take end s) (st .place .0))
+      ∙ ap (λ (y : Found Bool). asBool (from stays st y)) (sym (cut-is truth s (cutOf st) (st .place .0) end o))
 
-  pub element-got : (b : Bool) (q : Place) → r ≡ hB.Got b q → ofBool st (hB.Got b q) ≡ call.elementBool s st
+  pub element-got : (b : Bool) (q : Place) → r ≡ hB.Got b q → ofBool (ltb end (length s)) st (hB.Got b q) ≡ call.elementBool s st
   element-got b q g = element-is (hB.Got b q) g
 
-  pub element-no : (why : ℕ) → r ≡ hB.Refused why → ofBool st (hB.Refused why) ≡ call.elementBool s st
-  element-no why g = element-is (hB.Refused why) g
+  pub element-no : (why n : ℕ) → r ≡ hB.Refused why → n ≡ missing (ltb end (length s)) why → asBool (declines n st) ≡ call.elementBool s st
+  element-no why n g k = ap (λ (i : ℕ). asBool (declines i st)) k ∙ element-is (hB.Refused why) g
 
-pub ruleset element-cases = (element-got, element-no)
+pub ruleset element-cases = (cut-inside, cut-counts, element-got, element-no)
 
 -- read_bool
 module _ (s : List ℕ) (st : State) (b : Bool) (e : b ≡ sound (length s) st) where

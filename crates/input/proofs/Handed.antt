@@ -16,7 +16,11 @@ use Rattle.types.specs.Codes.{messageByNumber}
 use Rattle.types.specs.declared.TConfiguration.{TConfiguration}
 use Rattle.utf8.specs.Utf8.{utf8}
 use Rattle.numbers.specs.Varint.{got}
-use Rattle.heads.specs.Reader.{Reader, readAt, done, andThen, provided, byte, some}
+use Rattle.heads.specs.Reader.{Reader, readAt, readTo, done, andThen, provided, byte, some}
+use Rattle.heads.proofs.Lawful.{Lawful}
+use Rattle.heads.proofs.Ahead.{lawful-fair}
+use Rattle.heads.proofs.Cut.{was-cut, cut-whole}
+use Rattle.heads.proofs.Readers.{uuid-lawful, binary-lawful, text-lawful, message-lawful}
 use Rattle.heads.proofs.Tails.{uuid-tail, binary-tail, text-tail, message-tail, tail-slice}
 use Rattle.types.specs.declared.Place.{Place}
 use Rattle.types.specs.declared.SeqNo.{SeqNo}
@@ -24,8 +28,8 @@ use Rattle.types.specs.declared.TMessageType.{TMessageType}
 use Rattle.numbers.proofs.Found.{take-drop}
 use Rattle.heads.specs.Heads.{number32, uuid, binary, text, Message, messageTyped, named, versioned, message}
 use Rattle.heads.specs.Answers.{place}
-use Rattle.input.specs.State.{State, sound}
-use Rattle.input.specs.Outcome.{Outcome, stays, anew, answers}
+use Rattle.input.specs.State.{State, sound, cutOf}
+use Rattle.input.specs.Outcome.{Outcome, cutHere, stays, anew, answers}
 use Rattle.input.specs.Answers.{asPart, asMessage, partOf, nameOf}
 use Rattle.input.specs.Calls.{readUuid, readBytes, readString, readMessage, uuidPart, bytesPart, stringPart, namePart}
 use Rattle.input.specs.declared.PartAnswer.the-variants as P
@@ -175,20 +179,37 @@ module _ (s : List ℕ) (st : State) (r : ReadMessage) (e : r ≡ readMessage s 
 
 pub ruleset message-parts = (message-order, message-inside, message-part, message-none)
 
--- what the second calls hand out, where the first reads these bytes
+-- what the second calls hand out, where the first finds these bytes
 module _ (s : List ℕ) (st : State) (f : sound (length s) st ≡ true) (w : busy st ≡ false) where
-  pub uuid-handed : (bs : List ℕ) (e : ℕ) → readAt uuid s (st .place .0) ≡ got bs e → uuidPart s st ≡ bs
+  -- what was found up to a cut stands in the input
+  stood : {A : Type 0} (p : Reader A) → Lawful p → (c : ℕ) → st .place .0 ≤ c → (a : A) (e : ℕ) → readTo p s c (st .place .0) ≡ got a e → readAt p s (st .place .0) ≡ got a e
+  stood p l c h a e r =
+      let fair = lawful-fair p l in
+      cut-whole p s c (st .place .0) a e fair (was-cut p s c (st .place .0) a e fair h (is-sound (length s) st f .here) r)
+
+  before : st .place .0 ≤ cutOf st
+  before = is-sound (length s) st f .before
+
+  pub uuid-handed : (bs : List ℕ) (e : ℕ) → readTo uuid s (cutOf st) (st .place .0) ≡ got bs e → uuidPart s st ≡ bs
   unfolding uuidPart readUuid
-  uuid-handed bs e r = ap (λ (o : Outcome (List ℕ)). partOf s (asPart o .answer)) (read-well (λ st. uuid) stays s st f w bs e r) ∙ tail-slice s bs e (uuid-tail s (st .place .0) bs e r)
+  uuid-handed bs e r =
+      ap (λ (o : Outcome (List ℕ)). partOf s (asPart o .answer)) (read-well cutOf (λ st. uuid) stays s st f w bs e r)
+      ∙ tail-slice s bs e (uuid-tail s (st .place .0) bs e (stood uuid uuid-lawful (cutOf st) before bs e r))
 
-  pub bytes-handed : (bs : List ℕ) (e : ℕ) → readAt (binary (st .limits)) s (st .place .0) ≡ got bs e → bytesPart s st ≡ bs
+  pub bytes-handed : (bs : List ℕ) (e : ℕ) → readTo (binary (st .limits)) s (cutOf st) (st .place .0) ≡ got bs e → bytesPart s st ≡ bs
   unfolding bytesPart readBytes
-  bytes-handed bs e r = ap (λ (o : Outcome (List ℕ)). partOf s (asPart o .answer)) (read-well (λ st. binary (st .limits)) stays s st f w bs e r) ∙ tail-slice s bs e (binary-tail (st .limits) s (st .place .0) bs e r)
+  bytes-handed bs e r =
+      ap (λ (o : Outcome (List ℕ)). partOf s (asPart o .answer)) (read-well cutOf (λ st. binary (st .limits)) stays s st f w bs e r)
+      ∙ tail-slice s bs e (binary-tail (st .limits) s (st .place .0) bs e (stood (binary (st .limits)) (binary-lawful (st .limits)) (cutOf st) before bs e r))
 
-  pub string-handed : (bs : List ℕ) (e : ℕ) → readAt (text (st .limits)) s (st .place .0) ≡ got bs e → stringPart s st ≡ bs
+  pub string-handed : (bs : List ℕ) (e : ℕ) → readTo (text (st .limits)) s (cutOf st) (st .place .0) ≡ got bs e → stringPart s st ≡ bs
   unfolding stringPart readString
-  string-handed bs e r = ap (λ (o : Outcome (List ℕ)). partOf s (asPart o .answer)) (read-well (λ st. text (st .limits)) stays s st f w bs e r) ∙ tail-slice s bs e (text-tail (st .limits) s (st .place .0) bs e r)
+  string-handed bs e r =
+      ap (λ (o : Outcome (List ℕ)). partOf s (asPart o .answer)) (read-well cutOf (λ st. text (st .limits)) stays s st f w bs e r)
+      ∙ tail-slice s bs e (text-tail (st .limits) s (st .place .0) bs e (stood (text (st .limits)) (text-lawful (st .limits)) (cutOf st) before bs e r))
 
-  pub name-handed : (m : Message) (e : ℕ) → readAt (message (st .limits)) s (st .place .0) ≡ got m e → namePart s st ≡ m .2
+  pub name-handed : (m : Message) (e : ℕ) → readTo (message (st .limits)) s (cutHere st) (st .place .0) ≡ got m e → namePart s st ≡ m .2
   unfolding namePart readMessage
-  name-handed m e r = ap (λ (o : Outcome Message). nameOf s (asMessage o .answer)) (read-well (λ st. message (st .limits)) anew s st f w m e r) ∙ tail-slice s (m .2) e (message-tail (st .limits) s (st .place .0) m e r)
+  name-handed m e r =
+      ap (λ (o : Outcome Message). nameOf s (asMessage o .answer)) (read-well cutHere (λ st. message (st .limits)) anew s st f w m e r)
+      ∙ tail-slice s (m .2) e (message-tail (st .limits) s (st .place .0) m e (stood (message (st .limits)) (message-lawful (st .limits)) (cutHere st) (omega arith) m e r))

@@ -1,31 +1,32 @@
 -- The laws of every call, shown once: a refused call hands back the state as given; the bytes behind what was read have no say; the next
 -- place lies in the input, not before the last; a sound state stays sound; BAD STATE and OUT OF TURN are given exactly when the scope paper says. Assumes nothing.
-use mathlib.Core.Path.{_≡_, refl, sym, ap, _∙_}
+use mathlib.Core.Path.{_≡_, refl, sym, ap, subst, _∙_}
 use mathlib.Core.List.{List}
 use mathlib.Core.Bool.{Bool, true, false, cond, _||_}
 use Prim.Native.Nat.{ℕ, _≤_, _<_}
 use native.Mathlib.Omega.{arith}
 use borrow.Author.Tests.{eq-eqb, ne-eqb, leb-false}
-use lib.Dec.{leb, eqb}
+use lib.Dec.{leb, ltb, eqb}
 use lib.ListN.{length, take, drop, length-drop}
 use Rattle.types.specs.Refusals.{DEPTH, OUT-OF-TURN, BAD-STATE}
 use Rattle.types.specs.Limits.{inRange}
 use Rattle.types.specs.declared.TConfiguration.{TConfiguration}
 use Rattle.numbers.specs.Varint.{Found, got, refused, placed}
-use Rattle.numbers.proofs.Found.{as-long, same-part}
-use Rattle.heads.specs.Reader.{Reader, readAt}
+use Rattle.numbers.proofs.Found.{as-long}
+use Rattle.heads.specs.Reader.{Reader, readAt, readTo, missing, missed}
 use Rattle.heads.specs.Heads.{truth}
 use Rattle.heads.specs.Answers.{place}
 use Rattle.heads.proofs.Lawful.{Lawful, same}
-use Rattle.heads.proofs.Ahead.{Fair}
+use Rattle.heads.proofs.Ahead.{Fair, lawful-fair}
+use Rattle.heads.proofs.Cut.{Cut, was-cut, cut-same, cut-longer, missed-no}
 use Rattle.heads.proofs.Steps.{found-at, lost-at}
 use Rattle.heads.proofs.Readers.{truth-lawful}
-use Rattle.input.specs.State.{State, sound, waits, gate, movedTo, withPending, entered, left}
-use Rattle.input.specs.Outcome.{Said, says, refuses, Outcome, answers, declines, guarded, from, calls, stays, element, bools, begins, ends}
+use Rattle.input.specs.State.{State, sound, cutOf, waits, gate, movedTo, withPending, entered, left}
+use Rattle.input.specs.Outcome.{Said, says, refuses, Outcome, answers, declines, guarded, from, callsTo, calls, stays, element, bools, begins, ends}
 use Rattle.input.specs.declared.Awaited.{Awaited}
 use Rattle.input.specs.declared.Awaited.the-variants as W
 use Rattle.input.proofs.Gate.{Sound, is-sound, sound-is, Gated, bad, turn, through, gated}
-use Rattle.input.proofs.Refusals.{Shown, shown, Told, truth-told}
+use Rattle.input.proofs.Refusals.{Shown, shown, shown-missing, Told, truth-told}
 
 pub not-true : {X : Type 0} {b : Bool} → b ≡ false → b ≡ true → X
 not-true f g = let z : _≡_ {A = Bool} false true = sym f ∙ g in let o : _≡_ {A = ℕ} 0 1 = cc in absurd (omega arith)
@@ -173,7 +174,7 @@ module _ (far : List ℕ → List ℕ → Type 0) {A R : Type 0} (call : List �
 pub agree : (s t : List ℕ) (st : State) (e : ℕ) → sound (length s) st ≡ true → st .place .0 ≤ e → e ≤ length s → take e t ≡ take e s → sound (length t) st ≡ true
 agree s t st e f lo hi g =
     let q = is-sound (length s) st f in
-    sound-is (length t) st (record { limits = q .limits; here = omega (arith, as-long e s t hi g); deep = q .deep })
+    sound-is (length t) st (record { limits = q .limits; here = omega (arith, as-long e s t hi g); deep = q .deep; after = q .after; before = q .before })
 
 -- a bool is pending: the states that a call other than the bool call is out of turn in
 abbrev pub busy : State → Bool
@@ -194,110 +195,117 @@ module _ {A : Type 0} (behind : List ℕ → State → Outcome A) where
   at-gate : (s : List ℕ) (st : State) (n : ℕ) → gate (length s) st ≡ n → 0 < n → gatedly s st ≡ declines n st
   at-gate s st n g h = rw (g, ne-eqb n 0 (λ z. omega arith))
 
--- a state that is sound stays so at another place of the input, with the same limits and depth
-sound-at : (len : ℕ) (st next : State) → sound len st ≡ true → next .limits ≡ st .limits → next .depth ≡ st .depth → next .place .0 ≤ len → sound len next ≡ true
-sound-at len st next f l d h =
+-- a state that is sound stays so at another place of the input that its cut lets it have, with the same limits and depth
+sound-at : (len : ℕ) (st next : State) → sound len st ≡ true → next .limits ≡ st .limits → next .depth ≡ st .depth → next .place .0 ≤ len → next .begin .0 ≤ next .place .0 → next .place .0 ≤ cutOf next → sound len next ≡ true
+sound-at len st next f l d h a b =
     let q = is-sound len st f in
     let e : next .limits .depth ≡ st .limits .depth = ap (λ (x : TConfiguration). x .depth) l in
-    sound-is len next (record { limits = ap inRange l ∙ q .limits; here = h; deep = omega (arith, q .deep) })
+    sound-is len next (record { limits = ap inRange l ∙ q .limits; here = h; deep = omega (arith, q .deep); after = a; before = b })
 
--- what a move leaves: limits and depth
-pub record Keeps {A : Type 0} (move : State → A → State) : Type 0 where
+-- what a move leaves: limits and depth; and the cut that its call reads up to is the next state's
+pub record Keeps {A : Type 0} (cut : State → ℕ) (move : State → A → State) : Type 0 where
   pub limits : (st : State) (a : A) → move st a .limits ≡ st .limits
   pub depth : (st : State) (a : A) → move st a .depth ≡ st .depth
+  pub begins : (st : State) (a : A) → st .begin .0 ≤ st .place .0 → move st a .begin .0 ≤ st .place .0
+  pub cuts : (st : State) (a : A) → cutOf (move st a) ≡ cut st
+  pub room : (st : State) → st .place .0 ≤ cutOf st → st .place .0 ≤ cut st
 
--- what a reader owes: no more is taken than there is, and the same is found in other inputs
+-- what a reader owes: no more is taken than there is, and the same is found in other inputs, up to any cut
 pub record Owes {A : Type 0} (far : List ℕ → List ℕ → Type 0) (p : Reader A) : Type 0 where
-  pub ends : (bs : List ℕ) (a : A) (n : ℕ) → p bs ≡ got a n → n ≤ length bs
-  pub holds : (s t : List ℕ) (at : ℕ) (a : A) (n : ℕ) → p (drop at s) ≡ got a n → take n (drop at t) ≡ take n (drop at s) → far s t → p (drop at t) ≡ got a n
+  pub fair : Fair p
+  pub holds : (s : List ℕ) (c at : ℕ) (a : A) (e : ℕ) → Cut p s c at a e → (t : List ℕ) → take e t ≡ take e s → far s t → readTo p t c at ≡ got a e
 
 pub lawful-reading : {A : Type 0} (p : Reader A) → Lawful p → Owes any p
-lawful-reading p l = record { ends = l .ends; holds = λ s t at a n e h f. same p l (drop at s) (drop at t) a n e h }
+lawful-reading p l = record { fair = lawful-fair p l; holds = λ s c at a e k t q f. cut-same p s c at a e l k t q }
 
 pub fair-reading : {A : Type 0} (p : Reader A) → Fair p → Owes noShorter p
-fair-reading p l = record { ends = l .ends; holds = λ s t at a n e h f. l .longer (drop at s) (drop at t) a n e h (omega (arith, length-drop at s, length-drop at t)) }
+fair-reading p l = record { fair = l; holds = λ s c at a e k t q f. cut-longer p s c at a e l k t q f }
+
+-- what is missed or refused up to a cut is shown by the input
+pub cut-told : {A : Type 0} (p : Reader A) → Told p → (s : List ℕ) (c at why : ℕ) → readTo p s c at ≡ refused why → Shown why
+unfolding readTo readAt
+cut-told p told s c at why e =
+    let m = missed-no (ltb c (length s)) (placed at (p (drop at (take c s)))) why e in
+    subst Shown (m .2) (shown-missing (ltb c (length s)) (m .0) (told (drop at (take c s)) (m .0) (lost-at at _ (m .0) (m .1))))
 
 -- what a reader finds at a state's place, for a call that comes to its reader
-module _ (far : List ℕ → List ℕ → Type 0) {A : Type 0} (call : List ℕ → State → Outcome A) (late : State → Bool) (move : State → A → State) (keeps : Keeps move) (s : List ℕ) (st : State) (p : Reader A) (lawful : Owes far p) (told : Told p) (f : sound (length s) st ≡ true) (l : late st ≡ false) (passed : (t : List ℕ) → sound (length t) st ≡ true → call t st ≡ from move st (readAt p t (st .place .0))) where
-  found : (x : Found A) → readAt p s (st .place .0) ≡ x → Way far call late s st
-  unfolding readAt
-  found (refused why) e = lost f l why (told (drop (st .place .0) s) why (lost-at (st .place .0) _ why e)) (passed s f ∙ ap (from move st) e)
+module _ (far : List ℕ → List ℕ → Type 0) (cut : State → ℕ) {A : Type 0} (call : List ℕ → State → Outcome A) (late : State → Bool) (move : State → A → State) (keeps : Keeps cut move) (s : List ℕ) (st : State) (p : Reader A) (owes : Owes far p) (told : Told p) (f : sound (length s) st ≡ true) (l : late st ≡ false) (passed : (t : List ℕ) → sound (length t) st ≡ true → call t st ≡ from move st (readTo p t (cut st) (st .place .0))) where
+  found : (x : Found A) → readTo p s (cut st) (st .place .0) ≡ x → Way far call late s st
+  found (refused why) e = lost f l why (cut-told p told s (cut st) (st .place .0) why e) (passed s f ∙ ap (from move st) e)
   found (got a e) r =
       let at = st .place .0 in
       let q = is-sound (length s) st f in
-      let g = found-at at (p (drop at s)) a e r in
-      let n = g .0 in
-      let lo : at ≤ e = omega (arith, g .2) in
-      let hi : e ≤ length s = omega (arith, q .here, g .2, lawful .ends (drop at s) a n (g .1), length-drop at s) in
-      well f l a (movedTo (move st a) (place e)) lo (sound-at (length s) st (movedTo (move st a) (place e)) f (keeps .limits st a) (keeps .depth st a) hi)
+      let k = was-cut p s (cut st) at a e (owes .fair) (keeps .room st (q .before)) (q .here) r in
+      let lo : at ≤ e = omega (arith, k .all) in
+      let next = movedTo (move st a) (place e) in
+      well f l a next lo
+      (sound-at (length s) st next f (keeps .limits st a) (keeps .depth st a) (k .inside) (omega (arith, keeps .begins st a (q .after))) (omega (arith, keeps .cuts st a, k .before)))
       (passed s f ∙ ap (from move st) r)
-      (λ t h w.
-      let again : p (drop at t) ≡ got a n = lawful .holds s t at a n (g .1) (same-part at n e s t (g .2) h) w in
-      passed t (agree s t st e f lo hi h) ∙ ap (from move st) (ap (placed at) again ∙ ap (got a) (g .2)))
+      (λ t h w. passed t (agree s t st e f lo (k .inside) h) ∙ ap (from move st) (owes .holds s (cut st) at a e k t h w))
 
 -- behind the gate
-abbrev reading : {A : Type 0} → (State → Reader A) → (State → A → State) → List ℕ → State → Outcome A
-reading p move s st = from move st (readAt (p st) s (st .place .0))
+abbrev reading : {A : Type 0} → (State → ℕ) → (State → Reader A) → (State → A → State) → List ℕ → State → Outcome A
+reading cut p move s st = from move st (readTo (p st) s (cut st) (st .place .0))
 
 -- a call that reads
-module _ (far : List ℕ → List ℕ → Type 0) {A : Type 0} (p : State → Reader A) (move : State → A → State) (keeps : Keeps move) (lawful : (st : State) → Owes far (p st)) (told : (st : State) → Told (p st)) where
-  pub reads-by : (s : List ℕ) (st : State) → Way far (calls p move) busy s st
-  unfolding calls
+module _ (far : List ℕ → List ℕ → Type 0) (cut : State → ℕ) {A : Type 0} (p : State → Reader A) (move : State → A → State) (keeps : Keeps cut move) (lawful : (st : State) → Owes far (p st)) (told : (st : State) → Told (p st)) where
+  pub reads-by : (s : List ℕ) (st : State) → Way far (callsTo cut p move) busy s st
+  unfolding callsTo
   reads-by s st = go (gated (length s) st)
     where
-      go : Gated (length s) st → Way far (calls p move) busy s st
-      go (bad f g) = unsound f (at-gate (reading p move) s st BAD-STATE g (omega arith))
-      go (turn f w g) = early f w (at-gate (reading p move) s st OUT-OF-TURN g (omega arith))
+      go : Gated (length s) st → Way far (callsTo cut p move) busy s st
+      go (bad f g) = unsound f (at-gate (reading cut p move) s st BAD-STATE g (omega arith))
+      go (turn f w g) = early f w (at-gate (reading cut p move) s st OUT-OF-TURN g (omega arith))
       go (through f w g) =
-          found far (calls p move) busy move keeps s st (p st) (lawful st) (told st) f w
-          (λ t h. past-gate (reading p move) t st (gate-free (length t) st h w))
-          (readAt (p st) s (st .place .0))
+          found far cut (callsTo cut p move) busy move keeps s st (p st) (lawful st) (told st) f w
+          (λ t h. past-gate (reading cut p move) t st (gate-free (length t) st h w))
+          (readTo (p st) s (cut st) (st .place .0))
           refl
 
 -- bytes behind have no say; or, of a header, only their number
-pub reads : {A : Type 0} (p : State → Reader A) (move : State → A → State) → Keeps move → ((st : State) → Lawful (p st)) → ((st : State) → Told (p st)) → (s : List ℕ) (st : State) → Way any (calls p move) busy s st
-reads p move keeps lawful told = reads-by any p move keeps (λ st. lawful-reading (p st) (lawful st)) told
+pub reads : {A : Type 0} (cut : State → ℕ) (p : State → Reader A) (move : State → A → State) → Keeps cut move → ((st : State) → Lawful (p st)) → ((st : State) → Told (p st)) → (s : List ℕ) (st : State) → Way any (callsTo cut p move) busy s st
+reads cut p move keeps lawful told = reads-by any cut p move keeps (λ st. lawful-reading (p st) (lawful st)) told
 
-pub heads : {A : Type 0} (p : State → Reader A) (move : State → A → State) → Keeps move → ((st : State) → Fair (p st)) → ((st : State) → Told (p st)) → (s : List ℕ) (st : State) → Way noShorter (calls p move) busy s st
-heads p move keeps fair told = reads-by noShorter p move keeps (λ st. fair-reading (p st) (fair st)) told
+pub heads : {A : Type 0} (p : State → Reader A) (move : State → A → State) → Keeps cutOf move → ((st : State) → Fair (p st)) → ((st : State) → Told (p st)) → (s : List ℕ) (st : State) → Way noShorter (calls p move) busy s st
+heads p move keeps fair told = reads-by noShorter cutOf p move keeps (λ st. fair-reading (p st) (fair st)) told
 
-pub stays-keeps : {A : Type 0} → Keeps (stays {A = A})
-stays-keeps = record { limits = λ st a. refl; depth = λ st a. refl }
+pub stays-keeps : {A : Type 0} → Keeps cutOf (stays {A = A})
+stays-keeps = record { limits = λ st a. refl; depth = λ st a. refl; begins = λ st a h. h; cuts = λ st a. refl; room = λ st h. h }
 
 -- what a call that reads answers, in full: from what stands at the state's place, and back
-module _ {A : Type 0} (p : State → Reader A) (move : State → A → State) (s : List ℕ) (st : State) where
-  pub read-well : sound (length s) st ≡ true → busy st ≡ false → (a : A) (e : ℕ) → readAt (p st) s (st .place .0) ≡ got a e → calls p move s st ≡ answers a (movedTo (move st a) (place e))
-  unfolding calls
-  read-well f w a e r = past-gate (reading p move) s st (gate-free (length s) st f w) ∙ ap (from move st) r
+module _ {A : Type 0} (cut : State → ℕ) (p : State → Reader A) (move : State → A → State) (s : List ℕ) (st : State) where
+  pub read-well : sound (length s) st ≡ true → busy st ≡ false → (a : A) (e : ℕ) → readTo (p st) s (cut st) (st .place .0) ≡ got a e → callsTo cut p move s st ≡ answers a (movedTo (move st a) (place e))
+  unfolding callsTo
+  read-well f w a e r = past-gate (reading cut p move) s st (gate-free (length s) st f w) ∙ ap (from move st) r
 
-  pub read-lost : sound (length s) st ≡ true → busy st ≡ false → (why : ℕ) → readAt (p st) s (st .place .0) ≡ refused why → calls p move s st ≡ declines why st
-  unfolding calls
-  read-lost f w why r = past-gate (reading p move) s st (gate-free (length s) st f w) ∙ ap (from move st) r
+  pub read-lost : sound (length s) st ≡ true → busy st ≡ false → (why : ℕ) → readTo (p st) s (cut st) (st .place .0) ≡ refused why → callsTo cut p move s st ≡ declines why st
+  unfolding callsTo
+  read-lost f w why r = past-gate (reading cut p move) s st (gate-free (length s) st f w) ∙ ap (from move st) r
 
   pub record Landed : Type 0 where
     pub is-sound : sound (length s) st ≡ true
     pub free : busy st ≡ false
     pub value : A
     pub end : ℕ
-    pub stood : readAt (p st) s (st .place .0) ≡ got value end
-    pub is : calls p move s st ≡ answers value (movedTo (move st value) (place end))
+    pub stood : readTo (p st) s (cut st) (st .place .0) ≡ got value end
+    pub is : callsTo cut p move s st ≡ answers value (movedTo (move st value) (place end))
 
-  pub landed : Told (p st) → numberOf (calls p move s st .said) ≡ 0 → Landed
-  unfolding calls readAt
+  pub landed : Told (p st) → numberOf (callsTo cut p move s st .said) ≡ 0 → Landed
+  unfolding callsTo
   landed told z = go (gated (length s) st)
     where
-      told-no : (o : Outcome A) → calls p move s st ≡ o → 0 < numberOf (o .said) → Landed
-      told-no o e h = let n : numberOf (calls p move s st .said) ≡ numberOf (o .said) = ap (λ (x : Outcome A). numberOf (x .said)) e in absurd (omega arith)
+      told-no : (o : Outcome A) → callsTo cut p move s st ≡ o → 0 < numberOf (o .said) → Landed
+      told-no o e h = let n : numberOf (callsTo cut p move s st .said) ≡ numberOf (o .said) = ap (λ (x : Outcome A). numberOf (x .said)) e in absurd (omega arith)
 
-      stands : sound (length s) st ≡ true → busy st ≡ false → (x : Found A) → readAt (p st) s (st .place .0) ≡ x → Landed
+      stands : sound (length s) st ≡ true → busy st ≡ false → (x : Found A) → readTo (p st) s (cut st) (st .place .0) ≡ x → Landed
       stands f w (got a e) r = record { is-sound = f; free = w; value = a; end = e; stood = r; is = read-well f w a e r }
       stands f w (refused why) r =
-          told-no (declines why st) (past-gate (reading p move) s st (gate-free (length s) st f w) ∙ ap (from move st) r) (told (drop (st .place .0) s) why (lost-at (st .place .0) _ why r) .some)
+          told-no (declines why st) (past-gate (reading cut p move) s st (gate-free (length s) st f w) ∙ ap (from move st) r) (cut-told (p st) told s (cut st) (st .place .0) why r .some)
 
       go : Gated (length s) st → Landed
-      go (bad f g) = told-no (declines BAD-STATE st) (at-gate (reading p move) s st BAD-STATE g (omega arith)) (omega arith)
-      go (turn f w g) = told-no (declines OUT-OF-TURN st) (at-gate (reading p move) s st OUT-OF-TURN g (omega arith)) (omega arith)
-      go (through f w g) = stands f w (readAt (p st) s (st .place .0)) refl
+      go (bad f g) = told-no (declines BAD-STATE st) (at-gate (reading cut p move) s st BAD-STATE g (omega arith)) (omega arith)
+      go (turn f w g) = told-no (declines OUT-OF-TURN st) (at-gate (reading cut p move) s st OUT-OF-TURN g (omega arith)) (omega arith)
+      go (through f w g) = stands f w (readTo (p st) s (cut st) (st .place .0)) refl
 
 -- the bool call is never out of turn
 abbrev pub never : State → Bool
@@ -310,10 +318,10 @@ bool-ways s st = go (sound (length s) st) refl (st .pending .0) refl
     go : (b : Bool) → sound (length s) st ≡ b → (w : Awaited) → st .pending .0 ≡ w → Way any bools never s st
     go false f w g = unsound f (rw f)
     go true f W.Nothing g =
-        found any bools never stays stays-keeps s st truth (lawful-reading truth truth-lawful) truth-told f refl (λ t h. rw (h, g)) (readAt truth s (st .place .0)) refl
+        found any cutOf bools never stays stays-keeps s st truth (lawful-reading truth truth-lawful) truth-told f refl (λ t h. rw (h, g)) (readTo truth s (cutOf st) (st .place .0)) refl
     go true f (W.Truth b) g =
         let q = is-sound (length s) st f in
-        well f refl b (withPending st W.Nothing) (omega arith) (sound-at (length s) st (withPending st W.Nothing) f refl refl (q .here))
+        well f refl b (withPending st W.Nothing) (omega arith) (sound-at (length s) st (withPending st W.Nothing) f refl refl (q .here) (q .after) (q .before))
         (rw (f, g))
         (λ t h w. let k = agree s t st (st .place .0) f (omega arith) (q .here) h in rw (k, g))
 
@@ -342,7 +350,7 @@ unfolding begins
 begin-ways s st = go (gated (length s) st)
   where
     inner : Sound (length s) st → st .depth < st .limits .depth → sound (length s) (entered st) ≡ true
-    inner q d = sound-is (length s) (entered st) (record { limits = q .limits; here = q .here; deep = omega arith })
+    inner q d = sound-is (length s) (entered st) (record { limits = q .limits; here = q .here; deep = omega arith; after = q .after; before = q .before })
 
     deep : sound (length s) st ≡ true → busy st ≡ false → (b : Bool) → leb (st .limits .depth) (st .depth) ≡ b → Way any begins busy s st
     deep f w true d = rests-no entering busy s st f w w DEPTH (shown DEPTH refl) (rw d)
@@ -365,7 +373,7 @@ unfolding ends
 end-ways s st = go (gated (length s) st)
   where
     outer : Sound (length s) st → sound (length s) (left st) ≡ true
-    outer q = sound-is (length s) (left st) (record { limits = q .limits; here = q .here; deep = omega (arith, q .deep) })
+    outer q = sound-is (length s) (left st) (record { limits = q .limits; here = q .here; deep = omega (arith, q .deep); after = q .after; before = q .before })
 
     out : sound (length s) st ≡ true → busy st ≡ false → (b : Bool) → eqb (st .depth) 0 ≡ b → Way any ends busyOrOut s st
     out f w true d = early f (rw (w, d)) (past-gate (λ s st. leaving st) s st (gate-free (length s) st f w) ∙ rw d)

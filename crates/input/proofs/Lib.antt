@@ -7,3 +7,4 @@ pub mod Other
 pub mod Handed
 pub mod Structs
 pub mod Table
+pub mod Ceiling

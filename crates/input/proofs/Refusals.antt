@@ -1,15 +1,16 @@
--- The refusals of the readers of scalars and headers: none reads as an answer, as BAD STATE or as OUT OF TURN. Assumes nothing.
+-- The refusals of the readers of scalars and headers: none reads as an answer, as BAD STATE, as OUT OF TURN or as MESSAGE SIZE. Assumes nothing.
 use mathlib.Core.Path.{_≡_, refl, sym, ap, subst, _∙_}
-use mathlib.Core.Bool.{Bool, true, false, cond}
+use mathlib.Core.Bool.{Bool, true, false, cond, _&&_}
 use mathlib.Core.List.{List, [], _∷_}
 use mathlib.Core.Logic.{⊎-elim}
 use Prim.Native.Nat.{ℕ, zero, suc, _/_, _%_, _<_}
 use native.Mathlib.Omega.{arith}
+use borrow.Author.Tests.{eq-eqb}
 use lib.Dec.{eqb, leb, ltb}
 use lib.IntN.{ℤ, pos, _+ℤ_}
 use lib.Signed.{ltZ}
 use lib.ListN.{length, getD, drop}
-use Rattle.types.specs.Refusals.{END, BAD-VERSION, BAD-MESSAGE-TYPE, BAD-TYPE, BAD-BOOL, LONG-VARINT, FIELD-ID, SIZE-LIMIT, NEGATIVE-SIZE, BAD-UTF8, OUT-OF-TURN, BAD-STATE, RANGE}
+use Rattle.types.specs.Refusals.{END, BAD-VERSION, BAD-MESSAGE-TYPE, BAD-TYPE, BAD-BOOL, LONG-VARINT, FIELD-ID, SIZE-LIMIT, NEGATIVE-SIZE, BAD-UTF8, OUT-OF-TURN, BAD-STATE, RANGE, MESSAGE-SIZE}
 use Rattle.types.specs.Codes.{numbered, typeByNumber, elementType, asField, fieldType, messages, messageByNumber}
 use Rattle.types.specs.declared.TType.{TType}
 use Rattle.types.specs.declared.TType.the-variants as T
@@ -23,7 +24,7 @@ use Rattle.types.specs.declared.MessageTypeRead.the-variants as MR
 use Rattle.types.specs.declared.TConfiguration.{TConfiguration}
 use Rattle.numbers.specs.Varint.{Found, got, refused, groups, keep, varint}
 use Rattle.numbers.proofs.Found.{which}
-use Rattle.heads.specs.Reader.{Reader, done, refuse, andThen, provided, byte, some, ahead, backed}
+use Rattle.heads.specs.Reader.{Reader, done, refuse, andThen, provided, byte, some, ahead, backed, missing}
 use Rattle.heads.specs.Heads.{int8, number32, number64, int16, int32, int64, double, uuid, truth, binary, text, typed, counted, listed, items, mapped, pairs, itemsHead, pairsHead, fieldId, ofType, field, messageTyped, named, versioned, message}
 use Rattle.heads.proofs.Lawful.{not-both}
 use Rattle.heads.proofs.Steps.{lost-at}
@@ -51,25 +52,45 @@ shown why h = record { some = some why h; turnless = λ e. no (subst plainly e h
     some zero e = absurd (no e)
     some (suc n) e = omega arith
 
-abbrev pub Told : {A : Type 0} → Reader A → Type 0
-Told {A} p = (bs : List ℕ) (why : ℕ) → p bs ≡ refused why → Shown why
+-- a reader's own: it knows of no ceiling
+pub record Own (why : ℕ) : Type 0 where
+  pub is-shown : Shown why
+  pub sizeless : why ≡ MESSAGE-SIZE → ⊥
 
-as-shown : {A : Type 0} (w why : ℕ) → Shown w → _≡_ {A = Found A} (refused w) (refused why) → Shown why
-as-shown w why h e = let z : w ≡ why = cc in subst Shown z h
+pub own : (why : ℕ) → plain why ≡ true → eqb why MESSAGE-SIZE ≡ false → Own why
+own why h k =
+    record {
+      is-shown = shown why h;
+      sizeless = λ e. let o : _≡_ {A = Bool} true false = sym (eq-eqb why MESSAGE-SIZE e) ∙ k in let z : _≡_ {A = ℕ} 0 1 = cc in omega arith;
+    }
+
+-- and it is shown, whether the ceiling turns it or not
+pub shown-missing : (m : Bool) (why : ℕ) → Own why → Shown (missing m why)
+shown-missing m why h = go (m && eqb why END)
+  where
+    go : (b : Bool) → Shown (cond b MESSAGE-SIZE why)
+    go true = shown MESSAGE-SIZE refl
+    go false = h .is-shown
+
+abbrev pub Told : {A : Type 0} → Reader A → Type 0
+Told {A} p = (bs : List ℕ) (why : ℕ) → p bs ≡ refused why → Own why
+
+as-own : {A : Type 0} (w why : ℕ) → Own w → _≡_ {A = Found A} (refused w) (refused why) → Own why
+as-own w why h e = let z : w ≡ why = cc in subst Own z h
 
 pub done-told : {A : Type 0} (a : A) → Told (done a)
 unfolding done
 done-told a bs why e = not-both (sym e)
 
-pub refuse-told : {A : Type 0} (w : ℕ) → Shown w → Told (refuse {A = A} w)
+pub refuse-told : {A : Type 0} (w : ℕ) → Own w → Told (refuse {A = A} w)
 unfolding refuse
-refuse-told {A} w h bs why e = as-shown {A = A} w why h e
+refuse-told {A} w h bs why e = as-own {A = A} w why h e
 
 pub then-told : {A B : Type 0} (p : Reader A) (k : A → Reader B) → Told p → ((a : A) → Told (k a)) → Told (andThen p k)
 unfolding andThen
 then-told {A} {B} p k hp hk bs why e = go (p bs) refl
   where
-    go : (x : Found A) → p bs ≡ x → Shown why
+    go : (x : Found A) → p bs ≡ x → Own why
     go (got a n) f = hk a (drop n bs) why (lost-at n (k a (drop n bs)) why (rw f at e))
     go (refused u) f =
         let g : _≡_ {A = Found B} (refused u) (refused why) = rw f at e in
@@ -80,31 +101,31 @@ pub cond-told : {A : Type 0} (t : Bool) (p q : Reader A) → Told p → Told q �
 cond-told true p q hp hq = hp
 cond-told false p q hp hq = hq
 
-pub provided-told : {A : Type 0} (ok : Bool) (w : ℕ) (p : Reader A) → Shown w → Told p → Told (provided ok w p)
+pub provided-told : {A : Type 0} (ok : Bool) (w : ℕ) (p : Reader A) → Own w → Told p → Told (provided ok w p)
 unfolding provided
 provided-told {A} true w p h hp bs why e = hp bs why e
-provided-told {A} false w p h hp bs why e = as-shown {A = A} w why h e
+provided-told {A} false w p h hp bs why e = as-own {A = A} w why h e
 
 byte-told : Told byte
 unfolding byte
-byte-told [] why e = as-shown {A = ℕ} END why (shown END refl) e
+byte-told [] why e = as-own {A = ℕ} END why (own END refl refl) e
 byte-told (b ∷ bs) why e = not-both (sym e)
 
 some-told : (n : ℕ) → Told (some n)
 unfolding some
 some-told n bs why e = go (leb n (length bs)) refl
   where
-    go : (t : Bool) → leb n (length bs) ≡ t → Shown why
+    go : (t : Bool) → leb n (length bs) ≡ t → Own why
     go true f = not-both (sym (rw f at e))
-    go false f = as-shown {A = List ℕ} END why (shown END refl) (rw f at e)
+    go false f = as-own {A = List ℕ} END why (own END refl refl) (rw f at e)
 
 ahead-told : {A : Type 0} (n : ℕ) (a : A) → Told (ahead n a)
 unfolding ahead
 ahead-told {A} n a bs why e = go (leb n (length bs)) refl
   where
-    go : (t : Bool) → leb n (length bs) ≡ t → Shown why
+    go : (t : Bool) → leb n (length bs) ≡ t → Own why
     go true f = not-both (sym (rw f at e))
-    go false f = as-shown {A = A} END why (shown END refl) (rw f at e)
+    go false f = as-own {A = A} END why (own END refl refl) (rw f at e)
 
 backed-told : {A : Type 0} (need : A → ℕ) (p : Reader A) → Told p → Told (backed need p)
 unfolding backed
@@ -118,8 +139,8 @@ whole w (refused u) why e = e
 varint-told : (w k : ℕ) → Told (varint w k)
 varint-told w k bs why e =
     ⊎-elim
-    (λ z. subst Shown (sym z) (shown END refl))
-    (λ z. subst Shown (sym z) (shown LONG-VARINT refl))
+    (λ z. subst Own (sym z) (own END refl refl))
+    (λ z. subst Own (sym z) (own LONG-VARINT refl refl))
     (which k bs why (whole w (groups k bs) why e))
 
 number32-told : Told number32
@@ -142,11 +163,11 @@ looked-up P d h (x ∷ l) a (suc n) = looked-up P d h l (a .1) n
 
 abbrev Typed : TypeRead → Type 0
 Typed (R.Got t) = Unit {0}
-Typed (R.Refused w) = Shown w
+Typed (R.Refused w) = Own w
 
 by-number : (n : ℕ) → Typed (typeByNumber n)
 unfolding typeByNumber
-by-number n = let no = shown BAD-TYPE refl in looked-up Typed (R.Refused BAD-TYPE) no numbered (tt, (tt, (no, (tt, (tt, (tt, (tt, (tt, (tt, (tt, (tt, (tt, (tt, (tt, tt)))))))))))))) n
+by-number n = let no = own BAD-TYPE refl refl in looked-up Typed (R.Refused BAD-TYPE) no numbered (tt, (tt, (no, (tt, (tt, (tt, (tt, (tt, (tt, (tt, (tt, (tt, (tt, (tt, tt)))))))))))))) n
 
 element-typed : (n : ℕ) → Typed (elementType n)
 unfolding elementType
@@ -164,7 +185,7 @@ abbrev Kind : FieldType → Type 0
 Kind FT.Stop = Unit {0}
 Kind (FT.Truth b) = Unit {0}
 Kind (FT.Kind t) = Unit {0}
-Kind (FT.Refused w) = Shown w
+Kind (FT.Refused w) = Own w
 
 as-field : (r : TypeRead) → Typed r → Kind (asField r)
 as-field (R.Got t) h = tt
@@ -182,11 +203,11 @@ field-kind n = go (eqb n 0) (eqb n 1) (eqb n 2)
 
 abbrev Called : MessageTypeRead → Type 0
 Called (MR.Got m) = Unit {0}
-Called (MR.Refused w) = Shown w
+Called (MR.Refused w) = Own w
 
 message-called : (n : ℕ) → Called (messageByNumber n)
 unfolding messageByNumber
-message-called n = let no = shown BAD-MESSAGE-TYPE refl in looked-up Called (MR.Refused BAD-MESSAGE-TYPE) no messages (no, (tt, (tt, (tt, (tt, tt))))) n
+message-called n = let no = own BAD-MESSAGE-TYPE refl refl in looked-up Called (MR.Refused BAD-MESSAGE-TYPE) no messages (no, (tt, (tt, (tt, (tt, tt))))) n
 
 called-told : (r : MessageTypeRead) → Called r → Told (messageTyped r)
 called-told (MR.Got m) h = done-told m
@@ -203,7 +224,7 @@ int32-told = then-told _ _ number32-told (λ n. done-told _)
 
 pub int16-told : Told int16
 unfolding int16
-int16-told = then-told _ _ int32-told (λ z. provided-told _ _ _ (shown RANGE refl) (done-told _))
+int16-told = then-told _ _ int32-told (λ z. provided-told _ _ _ (own RANGE refl refl) (done-told _))
 
 pub int64-told : Told int64
 unfolding int64
@@ -219,23 +240,23 @@ uuid-told = some-told 16
 
 pub truth-told : Told truth
 unfolding truth
-truth-told = then-told _ _ byte-told (λ b. provided-told _ _ _ (shown BAD-BOOL refl) (done-told _))
+truth-told = then-told _ _ byte-told (λ b. provided-told _ _ _ (own BAD-BOOL refl refl) (done-told _))
 
 -- strings and headers
 module _ (lim : TConfiguration) where
   pub binary-told : Told (binary lim)
   unfolding binary
-  binary-told = then-told _ _ number32-told (λ n. provided-told _ _ _ (shown SIZE-LIMIT refl) (some-told n))
+  binary-told = then-told _ _ number32-told (λ n. provided-told _ _ _ (own SIZE-LIMIT refl refl) (some-told n))
 
   pub text-told : Told (text lim)
   unfolding text
-  text-told = then-told _ _ binary-told (λ bs. provided-told _ _ _ (shown BAD-UTF8 refl) (done-told _))
+  text-told = then-told _ _ binary-told (λ bs. provided-told _ _ _ (own BAD-UTF8 refl refl) (done-told _))
 
   counted-told : (n : ℕ) → Told (counted lim n)
   unfolding counted
   counted-told n =
-      provided-told _ _ _ (shown NEGATIVE-SIZE refl)
-      (provided-told _ _ _ (shown SIZE-LIMIT refl) (done-told n))
+      provided-told _ _ _ (own NEGATIVE-SIZE refl refl)
+      (provided-told _ _ _ (own SIZE-LIMIT refl refl) (done-told n))
 
   listed-told : (t : TType) (n : ℕ) → Told (listed lim t n)
   unfolding listed
@@ -276,12 +297,12 @@ module _ (lim : TConfiguration) where
   unfolding versioned
   versioned-told =
       then-told _ _ byte-told
-      (λ b. provided-told _ _ _ (shown BAD-VERSION refl)
+      (λ b. provided-told _ _ _ (own BAD-VERSION refl refl)
       (then-told _ _ (called-told (messageByNumber (b / 32)) (message-called (b / 32))) (λ m. named-told m)))
 
   pub message-told : Told (message lim)
   unfolding message
-  message-told = then-told _ _ byte-told (λ b. provided-told _ _ _ (shown BAD-VERSION refl) versioned-told)
+  message-told = then-told _ _ byte-told (λ b. provided-told _ _ _ (own BAD-VERSION refl refl) versioned-told)
 
 -- fields
 module _ (last : ℤ) where
@@ -289,7 +310,7 @@ module _ (last : ℤ) where
   unfolding fieldId
   id-told delta =
       cond-told (eqb delta 0) _ _ int16-told
-      (cond-told (ltZ (pos 32767) (last +ℤ pos delta)) _ _ (refuse-told _ (shown FIELD-ID refl)) (done-told _))
+      (cond-told (ltZ (pos 32767) (last +ℤ pos delta)) _ _ (refuse-told _ (own FIELD-ID refl refl)) (done-told _))
 
   type-told : (delta : ℕ) (r : FieldType) → Kind r → Told (ofType last delta r)
   type-told delta FT.Stop h = done-told _

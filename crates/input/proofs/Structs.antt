@@ -13,7 +13,7 @@ use Rattle.types.specs.Refusals.{DEPTH, OUT-OF-TURN, BAD-STATE}
 use Rattle.heads.specs.Heads.{Message, message}
 use Rattle.heads.specs.Answers.{idOf}
 use Rattle.input.specs.State.{State, sound, gate, put, entered}
-use Rattle.input.specs.Outcome.{Outcome, calls, answers, declines, anew, begins, ends}
+use Rattle.input.specs.Outcome.{Outcome, callsTo, cutHere, answers, declines, anew, begins, ends}
 use Rattle.input.specs.Answers.{asDone, numberField, numberMessage, numberDone}
 use Rattle.input.specs.Calls.{readField, readMessage, structBegin, structEnd}
 use Rattle.input.specs.declared.ReadDone.{ReadDone}
@@ -30,8 +30,8 @@ refused-waits s st h = ap busy (field-laws .kept s st h)
 pub message-anew : (s : List ℕ) (st : State) → numberMessage (readMessage s st .answer) ≡ 0 → readMessage s st .state .last ≡ idOf (pos 0)
 unfolding readMessage
 message-anew s st z =
-    let o : Outcome Message = calls (λ st. message (st .limits)) anew s st in
-    let l = landed (λ st. message (st .limits)) anew s st (message-told (st .limits)) (sym (numMessage (o .state .place .0) (o .said)) ∙ z) in
+    let o : Outcome Message = callsTo cutHere (λ st. message (st .limits)) anew s st in
+    let l = landed cutHere (λ st. message (st .limits)) anew s st (message-told (st .limits)) (sym (numMessage (o .state .place .0) (o .said)) ∙ z) in
     ap (λ (o : Outcome Message). o .state .last) (l .is)
 
 -- a struct that is begun: "begin saves the last id and sets 0"

@@ -11,12 +11,12 @@ use Rattle.types.specs.Limits.{inRange, defaults}
 use Rattle.types.specs.declared.TType.the-variants as T
 use Rattle.types.specs.declared.TMessageType.the-variants as M
 use Rattle.utf8.specs.Utf8.{utf8, past, decode}
-use Rattle.heads.specs.Reader.{readAt, done, refuse, andThen, provided, byte, some, ahead, backed}
+use Rattle.heads.specs.Reader.{readAt, done, refuse, andThen, provided, byte, some, ahead, backed, readTo}
 use Rattle.heads.specs.Heads.{number32, int16, int32, binary, text, counted, listed, items, mapped, pairs, itemsHead, pairsHead, fieldId, field, named, versioned, message}
 use Rattle.heads.specs.Answers.{place, idOf, seqOf}
 use Rattle.heads.proofs.Samples.{frame}
 use Rattle.input.specs.State.{State, fresh, sound, gate, movedTo, withLast}
-use Rattle.input.specs.Outcome.{calls}
+use Rattle.input.specs.Outcome.{callsTo, calls}
 use Rattle.input.specs.Calls.{readI16, readI32, readField, readList, readSet, readMap, readMessage, namePart}
 use Rattle.input.specs.declared.I16Answer.the-variants as I16
 use Rattle.input.specs.declared.I32Answer.the-variants as I32
@@ -100,5 +100,5 @@ T12 =
     × (namePart (0x82 ∷ 0x21 ∷ 0x01 ∷ 0x01 ∷ 0x74 ∷ []) start ≡ 0x74 ∷ [])
 
 pub rows : T3 × T4 × T5 × T6 × T8 × T9 × T10 × T11 × T12 × Damaged
-unfolding fresh defaults inRange sound gate calls readI16 readI32 readField readList readSet readMap readMessage namePart readAt done refuse andThen provided byte some number32 int16 int32 binary text counted listed items mapped pairs ahead backed itemsHead pairsHead fieldId field named versioned message typeByNumber elementType fieldType messageByNumber utf8 past decode
+unfolding fresh defaults inRange sound gate callsTo readTo readI16 readI32 readField readList readSet readMap readMessage namePart readAt done refuse andThen provided byte some number32 int16 int32 binary text counted listed items mapped pairs ahead backed itemsHead pairsHead fieldId field named versioned message typeByNumber elementType fieldType messageByNumber utf8 past decode
 rows = ((refl, refl, refl, refl), refl, (refl, refl, refl), (refl, refl), refl, (refl, refl, refl, refl), (refl, refl), (refl, refl, refl), (refl, refl), (refl, refl))

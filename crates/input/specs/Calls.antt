@@ -15,7 +15,7 @@ use Rattle.input.specs.declared.ReadMap.{ReadMap}
 use Rattle.input.specs.declared.ReadField.{ReadField}
 use Rattle.input.specs.declared.ReadMessage.{ReadMessage}
 use Rattle.input.specs.declared.ReadDone.{ReadDone}
-use Rattle.input.specs.Outcome.{calls, stays, element, bools, begins, ends, anew, onField}
+use Rattle.input.specs.Outcome.{callsTo, calls, cutHere, stays, element, bools, begins, ends, anew, onField}
 use Rattle.input.specs.Answers.{asBool, asI8, asI16, asI32, asI64, asDouble, asPart, asList, asMap, asField, asMessage, asDone, partOf, nameOf}
 
 unfoldable pub readBool : List ℕ → State → ReadBool
@@ -62,7 +62,7 @@ unfoldable pub readField : List ℕ → State → ReadField
 readField s st = asField (calls (λ st. field (st .last .0)) onField s st)
 
 unfoldable pub readMessage : List ℕ → State → ReadMessage
-readMessage s st = asMessage (calls (λ st. message (st .limits)) anew s st)
+readMessage s st = asMessage (callsTo cutHere (λ st. message (st .limits)) anew s st)
 
 unfoldable pub structBegin : List ℕ → State → ReadDone
 structBegin s st = asDone (begins s st)

@@ -8,10 +8,10 @@ use lib.Dec.{eqb, leb}
 use lib.IntN.{pos}
 use Rattle.types.specs.Refusals.{DEPTH, OUT-OF-TURN, BAD-STATE}
 use Rattle.numbers.specs.Varint.{Found, got, refused}
-use Rattle.heads.specs.Reader.{Reader, readAt}
+use Rattle.heads.specs.Reader.{Reader, readTo}
 use Rattle.heads.specs.Heads.{truth, Field, stop, bool, value, Message}
 use Rattle.heads.specs.Answers.{place, idOf}
-use Rattle.input.specs.State.{State, sound, gate, movedTo, withLast, withPending, entered, left}
+use Rattle.input.specs.State.{State, sound, gate, cutOf, begunHere, movedTo, withLast, withPending, entered, left}
 use Rattle.input.specs.declared.Awaited.{Awaited}
 use Rattle.input.specs.declared.Awaited.the-variants as W
 
@@ -41,9 +41,13 @@ abbrev pub from : {A : Type 0} → (State → A → State) → State → Found A
 from move st (got a e) = answers a (movedTo (move st a) (place e))
 from move st (refused why) = declines why st
 
--- ".. then what the input shows, in reading order": a call that reads, by its reader and its move
-unfoldable pub calls : {A : Type 0} → (State → Reader A) → (State → A → State) → List ℕ → State → Outcome A
-calls p move s st = guarded s st (from move st (readAt (p st) s (st .place .0)))
+-- ".. then what the input shows, in reading order": a call that reads up to a cut, by its reader and its move
+unfoldable pub callsTo : {A : Type 0} → (State → ℕ) → (State → Reader A) → (State → A → State) → List ℕ → State → Outcome A
+callsTo cut p move s st = guarded s st (from move st (readTo (p st) s (cut st) (st .place .0)))
+
+-- up to the state's own cut
+abbrev pub calls : {A : Type 0} → (State → Reader A) → (State → A → State) → List ℕ → State → Outcome A
+calls p move s st = callsTo cutOf p move s st
 
 -- only the place moves
 abbrev pub stays : {A : Type 0} → State → A → State
@@ -51,7 +55,7 @@ stays st a = st
 
 -- an element's bool, at the state's place
 unfoldable pub element : List ℕ → State → Outcome Bool
-element s st = from stays st (readAt truth s (st .place .0))
+element s st = from stays st (readTo truth s (cutOf st) (st .place .0))
 
 -- "OUT OF TURN: a bool is pending and the call is neither the bool call ..": that one takes the bool, for no byte
 abbrev pub taken : List ℕ → State → Awaited → Outcome Bool
@@ -69,9 +73,13 @@ begins s st = guarded s st (cond (leb (st .limits .depth) (st .depth)) (declines
 unfoldable pub ends : List ℕ → State → Outcome (Unit {0})
 ends s st = guarded s st (cond (eqb (st .depth) 0) (declines OUT-OF-TURN st) (answers tt (left st)))
 
--- "Reading it sets the last field id to 0"
+-- "Reading it sets the last field id to 0"; the message began where it was read
 abbrev pub anew : State → Message → State
-anew st m = withLast st (idOf (pos 0))
+anew st m = withLast (begunHere st) (idOf (pos 0))
+
+-- the cut of a message that begins at the state's place
+abbrev pub cutHere : State → ℕ
+cutHere st = cutOf (begunHere st)
 
 -- "Type 0 reads as Stop .., last id unchanged"; a bool field's value waits for the bool call
 abbrev pub onField : State → Field → State

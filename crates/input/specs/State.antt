@@ -22,21 +22,31 @@ State = TCompactInputProtocol
 abbrev pub awaiting : Awaited → Pending
 awaiting w = record { 0 = w }
 
--- a reader at the start of its input, in no struct, with nothing read
-unfoldable pub fresh : TConfiguration → State
-fresh lim =
+-- a reader at a place of its input, in no struct, with nothing read; its count begins there, at "the state's start, before any message"
+abbrev pub freshAt : Place → TConfiguration → State
+freshAt at lim =
     record {
-      place = place 0;
+      place = at;
       last = idOf (pos 0);
       depth = 0;
       ids = replicate 64 (pos 0);
       pending = awaiting W.Nothing;
       limits = lim;
+      begin = at;
     }
 
--- "BAD STATE: a limit out of range, a place past the buffer's end, a depth over its limit"; "A state is sound when 15 is not given"
+-- at the start of its input
+unfoldable pub fresh : TConfiguration → State
+fresh lim = freshAt (place 0) lim
+
+-- the place where the message must have ended: where it began, and the ceiling behind that
+abbrev pub cutOf : State → ℕ
+cutOf st = st .begin .0 + st .limits .message
+
+-- "BAD STATE: a limit out of range, a place past the buffer's end, a depth over its limit"; "a beginning past the place, and a place past the cut"; "A state is sound when 15 is not given"
 unfoldable pub sound : ℕ → State → Bool
-sound len st = inRange (st .limits) && leb (st .place .0) len && leb (st .depth) (st .limits .depth)
+sound len st =
+    inRange (st .limits) && leb (st .place .0) len && leb (st .depth) (st .limits .depth) && leb (st .begin .0) (st .place .0) && leb (st .place .0) (cutOf st)
 
 -- a bool is pending
 abbrev pub waits : Awaited → Bool
@@ -49,10 +59,14 @@ gate len st = cond (sound len st) (cond (waits (st .pending .0)) OUT-OF-TURN 0) 
 
 -- The moves. A state is put together here and nowhere else; what no move names stays.
 abbrev pub put : State → Place → FieldId → ℕ → List ℤ → Pending → State
-put st at id depth ids w = record { place = at; last = id; depth = depth; ids = ids; pending = w; limits = st .limits }
+put st at id depth ids w = record { place = at; last = id; depth = depth; ids = ids; pending = w; limits = st .limits; begin = st .begin }
 
 abbrev pub movedTo : State → Place → State
 movedTo st at = put st at (st .last) (st .depth) (st .ids) (st .pending)
+
+-- "Beginning a message starts the count at its first byte"
+abbrev pub begunHere : State → State
+begunHere st = record { place = st .place; last = st .last; depth = st .depth; ids = st .ids; pending = st .pending; limits = st .limits; begin = st .place }
 
 abbrev pub withLast : State → FieldId → State
 withLast st id = put st (st .place) id (st .depth) (st .ids) (st .pending)

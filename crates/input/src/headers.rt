@@ -31,18 +31,21 @@ impl TCompactInputProtocol {
                 state: self,
             };
         }
-        match heads::read_message_begin(s, self.place, self.limits) {
+        let end = crate::cut_at(self.place.0, self.limits.message as usize, s.len());
+        match heads::read_message_begin(&s[..end], self.place, self.limits) {
             MessageHead::Refused(why) => ReadMessage {
-                answer: MessageAnswer::Refused(why),
+                answer: MessageAnswer::Refused(crate::missing(why, end, s.len())),
                 state: self,
             },
-            MessageHead::Got(kind, sequence, start, end) => {
+            MessageHead::Got(kind, sequence, start, to) => {
                 let last = FieldId(0);
+                let begin = self.place;
                 let mut next = self;
-                next.place = end;
+                next.place = to;
                 next.last = last;
+                next.begin = begin;
                 ReadMessage {
-                    answer: MessageAnswer::Got(kind, sequence, start, end),
+                    answer: MessageAnswer::Got(kind, sequence, start, to),
                     state: next,
                 }
             }
@@ -61,9 +64,10 @@ impl TCompactInputProtocol {
             };
         }
         let mut next = self;
-        match heads::read_field_begin(s, self.place, self.last) {
+        let end = self.cut(s.len());
+        match heads::read_field_begin(&s[..end], self.place, self.last) {
             FieldHead::Refused(why) => ReadField {
-                answer: FieldAnswer::Refused(why),
+                answer: FieldAnswer::Refused(crate::missing(why, end, s.len())),
                 state: next,
             },
             FieldHead::Stop(place) => {
@@ -104,9 +108,10 @@ impl TCompactInputProtocol {
                 state: self,
             };
         }
-        match heads::read_list_begin(s, self.place, self.limits) {
+        let end = self.cut(s.len());
+        match heads::read_list_begin(&s[..end], self.place, self.limits) {
             ListHead::Refused(why) => ReadList {
-                answer: ListAnswer::Refused(why),
+                answer: ListAnswer::Refused(crate::missing(why, end, s.len())),
                 state: self,
             },
             ListHead::Got(kind, count, place) => {
@@ -137,9 +142,10 @@ impl TCompactInputProtocol {
                 state: self,
             };
         }
-        match heads::read_map_begin(s, self.place, self.limits) {
+        let end = self.cut(s.len());
+        match heads::read_map_begin(&s[..end], self.place, self.limits) {
             MapHead::Refused(why) => ReadMap {
-                answer: MapAnswer::Refused(why),
+                answer: MapAnswer::Refused(crate::missing(why, end, s.len())),
                 state: self,
             },
             MapHead::Got(key, value, count, place) => {

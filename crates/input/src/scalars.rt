@@ -56,9 +56,10 @@ impl TCompactInputProtocol {
     fn element_bool(self, s: &[u8]) -> ReadBool
         ensures { λ r. ⌜ r ≡ elementBool (now (s .entry)) self ⌝ }
     {
-        match heads::read_bool(s, self.place) {
+        let end = self.cut(s.len());
+        match heads::read_bool(&s[..end], self.place) {
             BoolRead::Refused(why) => ReadBool {
-                answer: BoolAnswer::Refused(why),
+                answer: BoolAnswer::Refused(crate::missing(why, end, s.len())),
                 state: self,
             },
             BoolRead::Got(truth, place) => {
@@ -82,9 +83,10 @@ impl TCompactInputProtocol {
                 state: self,
             };
         }
-        match heads::read_i8(s, self.place) {
+        let end = self.cut(s.len());
+        match heads::read_i8(&s[..end], self.place) {
             I8Read::Refused(why) => ReadI8 {
-                answer: I8Answer::Refused(why),
+                answer: I8Answer::Refused(crate::missing(why, end, s.len())),
                 state: self,
             },
             I8Read::Got(n, place) => {
@@ -108,9 +110,10 @@ impl TCompactInputProtocol {
                 state: self,
             };
         }
-        match heads::read_i16(s, self.place) {
+        let end = self.cut(s.len());
+        match heads::read_i16(&s[..end], self.place) {
             I16Read::Refused(why) => ReadI16 {
-                answer: I16Answer::Refused(why),
+                answer: I16Answer::Refused(crate::missing(why, end, s.len())),
                 state: self,
             },
             I16Read::Got(n, place) => {
@@ -134,9 +137,10 @@ impl TCompactInputProtocol {
                 state: self,
             };
         }
-        match heads::read_i32(s, self.place) {
+        let end = self.cut(s.len());
+        match heads::read_i32(&s[..end], self.place) {
             I32Read::Refused(why) => ReadI32 {
-                answer: I32Answer::Refused(why),
+                answer: I32Answer::Refused(crate::missing(why, end, s.len())),
                 state: self,
             },
             I32Read::Got(n, place) => {
@@ -160,9 +164,10 @@ impl TCompactInputProtocol {
                 state: self,
             };
         }
-        match heads::read_i64(s, self.place) {
+        let end = self.cut(s.len());
+        match heads::read_i64(&s[..end], self.place) {
             I64Read::Refused(why) => ReadI64 {
-                answer: I64Answer::Refused(why),
+                answer: I64Answer::Refused(crate::missing(why, end, s.len())),
                 state: self,
             },
             I64Read::Got(n, place) => {
@@ -186,9 +191,10 @@ impl TCompactInputProtocol {
                 state: self,
             };
         }
-        match heads::read_double(s, self.place) {
+        let end = self.cut(s.len());
+        match heads::read_double(&s[..end], self.place) {
             DoubleRead::Refused(why) => ReadDouble {
-                answer: DoubleAnswer::Refused(why),
+                answer: DoubleAnswer::Refused(crate::missing(why, end, s.len())),
                 state: self,
             },
             DoubleRead::Got(bits, place) => {
@@ -212,16 +218,17 @@ impl TCompactInputProtocol {
                 state: self,
             };
         }
-        match heads::read_uuid(s, self.place) {
+        let end = self.cut(s.len());
+        match heads::read_uuid(&s[..end], self.place) {
             PartRead::Refused(why) => ReadPart {
-                answer: PartAnswer::Refused(why),
+                answer: PartAnswer::Refused(crate::missing(why, end, s.len())),
                 state: self,
             },
-            PartRead::Got(start, end) => {
+            PartRead::Got(start, to) => {
                 let mut next = self;
-                next.place = end;
+                next.place = to;
                 ReadPart {
-                    answer: PartAnswer::Got(start, end),
+                    answer: PartAnswer::Got(start, to),
                     state: next,
                 }
             }
@@ -238,16 +245,17 @@ impl TCompactInputProtocol {
                 state: self,
             };
         }
-        match heads::read_bytes(s, self.place, self.limits) {
+        let end = self.cut(s.len());
+        match heads::read_bytes(&s[..end], self.place, self.limits) {
             PartRead::Refused(why) => ReadPart {
-                answer: PartAnswer::Refused(why),
+                answer: PartAnswer::Refused(crate::missing(why, end, s.len())),
                 state: self,
             },
-            PartRead::Got(start, end) => {
+            PartRead::Got(start, to) => {
                 let mut next = self;
-                next.place = end;
+                next.place = to;
                 ReadPart {
-                    answer: PartAnswer::Got(start, end),
+                    answer: PartAnswer::Got(start, to),
                     state: next,
                 }
             }
@@ -264,16 +272,17 @@ impl TCompactInputProtocol {
                 state: self,
             };
         }
-        match heads::read_string(s, self.place, self.limits) {
+        let end = self.cut(s.len());
+        match heads::read_string(&s[..end], self.place, self.limits) {
             PartRead::Refused(why) => ReadPart {
-                answer: PartAnswer::Refused(why),
+                answer: PartAnswer::Refused(crate::missing(why, end, s.len())),
                 state: self,
             },
-            PartRead::Got(start, end) => {
+            PartRead::Got(start, to) => {
                 let mut next = self;
-                next.place = end;
+                next.place = to;
                 ReadPart {
-                    answer: PartAnswer::Got(start, end),
+                    answer: PartAnswer::Got(start, to),
                     state: next,
                 }
             }

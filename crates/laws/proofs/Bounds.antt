@@ -5,7 +5,7 @@ use mathlib.Core.List.{List, []}
 use Prim.Native.Nat.{ℕ, zero, suc, _+_, _-_, _≤_, _<_}
 use native.Mathlib.Omega.{arith}
 use borrow.Author.Tests.{eq-eqb}
-use lib.ListN.{length, drop, length-drop}
+use lib.ListN.{length, take, drop}
 use lib.IntN.{ℤ, pos}
 use Rattle.types.specs.declared.TType.{TType}
 use Rattle.types.specs.declared.TType.the-variants as T
@@ -13,15 +13,16 @@ use Rattle.types.specs.declared.TConfiguration.{TConfiguration}
 use Rattle.types.specs.Value as val
 use Rattle.types.specs.Value.{Tree, Trees, tree, Pairs, pair, Fields}
 use Rattle.types.specs.Refusals.{OUT-OF-TURN, BAD-STATE}
-use Rattle.numbers.specs.Varint.{Found, got, refused, placed}
-use Rattle.heads.specs.Reader.{Reader, readAt}
+use Rattle.numbers.specs.Varint.{Found, got, refused}
+use Rattle.heads.specs.Reader.{Reader, readTo}
 use Rattle.heads.specs.Heads.{int8, int16, int32, int64, double, uuid, binary, text, itemsHead, pairsHead, Field, stop, bool, value, field}
 use Rattle.heads.specs.Answers.{place}
 use Rattle.heads.proofs.Lawful.{Lawful, Takes, then-takes}
+use Rattle.heads.proofs.Cut.{was-cut}
 use Rattle.heads.proofs.Ahead.{Fair, lawful-fair, itemsHead-fair, itemsHead-takes, pairsHead-fair, pairsHead-takes}
 use Rattle.heads.proofs.Readers.{int8-lawful, int16-lawful, int32-lawful, int64-lawful, double-lawful, uuid-lawful, binary-lawful, text-lawful, field-lawful, int8-takes, int16-takes, int32-takes, int64-takes, double-takes, uuid-takes, binary-takes, field-takes}
-use Rattle.input.specs.State.{State, sound, gate, movedTo}
-use Rattle.input.specs.Outcome.{Outcome, answers, declines, from, calls, stays, bools, begins, ends, onField}
+use Rattle.input.specs.State.{State, cutOf, sound, gate, movedTo}
+use Rattle.input.specs.Outcome.{Outcome, answers, declines, from, callsTo, calls, stays, bools, begins, ends, onField}
 use Rattle.input.specs.Answers.{asBool, asI8, asI16, asI32, asI64, asDouble, asPart, asList, asMap, asField, asDone}
 use Rattle.input.specs.Calls.{readBool, readI8, readI16, readI32, readI64, readDouble, readUuid, readBytes, readString, readList, readSet, readMap, readField, structBegin, structEnd, uuidPart, bytesPart, stringPart}
 use Rattle.input.specs.declared.FieldAnswer.{FieldAnswer}
@@ -55,23 +56,24 @@ module _ (s : List ℕ) where
   on-then a b c p q = (omega (arith, p .0, q .0), q .1)
 
   -- a call that reads goes on by a byte at least, from whatever state
-  module _ {A B : Type 0} (p : State → Reader A) (move : State → A → State) (out : Outcome A → Took B) (lawful : (st : State) → Fair (p st)) (takes : (st : State) → Takes (p st)) (gone : (why : ℕ) (st : State) → out (declines why st) ≡ halted why) (kept : (a : A) (x : State) (b : B) (next : State) → out (answers a x) ≡ took b next → x ≡ next) where
+  module _ {A B : Type 0} (p : State → Reader A) (move : State → A → State) (out : Outcome A → Took B) (fair : (st : State) → Fair (p st)) (takes : (st : State) → Takes (p st)) (gone : (why : ℕ) (st : State) → out (declines why st) ≡ halted why) (kept : (a : A) (x : State) (b : B) (next : State) → out (answers a x) ≡ took b next → x ≡ next) where
     reads-past : (st next : State) (b : B) → out (calls p move s st) ≡ took b next → Past st next
-    unfolding calls readAt
+    unfolding callsTo
     reads-past st next b e = go (gated (length s) st)
       where
-        here : sound (length s) st ≡ true → (x : Found A) → p st (drop (st .place .0) s) ≡ x → out (from move st (placed (st .place .0) x)) ≡ took b next → Past st next
+        here : sound (length s) st ≡ true → (x : Found A) → readTo (p st) s (cutOf st) (st .place .0) ≡ x → out (from move st x) ≡ took b next → Past st next
         here f (got a n) g h =
             let q = is-sound (length s) st f in
-            let there : place (st .place .0 + n) ≡ next .place = ap (λ (y : State). y .place) (kept a (movedTo (move st a) (place (st .place .0 + n))) b next h) in
-            let m : st .place .0 + n ≡ next .place .0 = ap (λ y. y .0) there in
-            (omega (arith, takes st (drop (st .place .0) s) a n g), omega (arith, q .here, lawful st .ends (drop (st .place .0) s) a n g, length-drop (st .place .0) s))
+            let k = was-cut (p st) s (cutOf st) (st .place .0) a n (fair st) (q .before) (q .here) g in
+            let there : place n ≡ next .place = ap (λ (y : State). y .place) (kept a (movedTo (move st a) (place n)) b next h) in
+            let m : n ≡ next .place .0 = ap (λ y. y .0) there in
+            (omega (arith, k .all, takes st (drop (st .place .0) (take (cutOf st) s)) a (k .used) (k .read)), omega (arith, k .inside))
         here f (refused why) g h = no-took (sym (gone why st) ∙ h)
 
         go : Gated (length s) st → Past st next
         go (bad f g) = no-took (sym (gone BAD-STATE st) ∙ ap out (rw (g)) ∙ e)
         go (turn f w g) = no-took (sym (gone OUT-OF-TURN st) ∙ ap out (rw (g)) ∙ e)
-        go (through f w g) = here f (p st (drop (st .place .0) s)) refl (ap out (rw (eq-eqb (gate (length s) st) 0 g)) ∙ e)
+        go (through f w g) = here f (readTo (p st) s (cutOf st) (st .place .0)) refl (ap out (rw (eq-eqb (gate (length s) st) 0 g)) ∙ e)
 
   int8-past : (st next : State) (z : ℤ) → anI8 s st ≡ took z next → Past st next
   unfolding readI8

@@ -1,4 +1,5 @@
--- A value within the limits, written by the calls, stands in the buffer as its bytes, and the state is as it was, its place behind them.
+-- A value within the limits, its bytes within the message's ceiling, written by the calls, stands in the buffer as its bytes, and the state is as it was,
+-- its place behind them.
 -- Assumes nothing.
 use mathlib.Core.Path.{_≡_, refl, sym, ap, ap₂, subst, _∙_}
 use mathlib.Core.Bool.{Bool, true, false}
@@ -24,7 +25,7 @@ use Rattle.types.proofs.Value.{no-stop}
 use Rattle.numbers.specs.Answers.{putAt}
 use Rattle.numbers.proofs.Put.{put-put, length-put}
 use Rattle.puts.specs.Wrong.{orElse, countWrong, lengthWrong, textWrong, fieldWrong}
-use Rattle.output.specs.State.{State, idOf, inTurn, turn, movedTo, headed, awaiting, entered, ended}
+use Rattle.output.specs.State.{State, idOf, cutOf, inTurn, turn, movedTo, begunHere, headed, awaiting, entered, ended}
 use Rattle.puts.specs.Bytes.{fieldBytes, itemsBytes, pairsBytes, stringBytes, messageBytes}
 use Rattle.output.specs.Calls.{call, writes, leaves, truthCall, beginWrong, endWrong, boolCall, i8Call, intCall, doubleCall, uuidCall, bytesCall, stringCall, itemsCall, pairsCall, structBeginCall, structEndCall, fieldCall, stopCall, messageCall}
 use Rattle.output.specs.declared.AwaitedField.{AwaitedField}
@@ -32,7 +33,9 @@ use Rattle.output.specs.declared.AwaitedField.the-variants as A
 use Rattle.output.specs.declared.Written.{Written}
 use Rattle.output.specs.declared.WriteAnswer.{WriteAnswer}
 use Rattle.output.specs.declared.WriteAnswer.the-variants as WA
-use Rattle.output.proofs.Laws.{goes}
+use Rattle.output.proofs.Checks.{Sound, cut-lets}
+use Rattle.output.proofs.Laws.{goes, Follows}
+use Rattle.output.proofs.Stays as follows
 use Rattle.laws.specs.Written.{fieldCode, inHeader, bytesOf, bytesOfAll, bytesOfPairs, bytesOfFields, bytesOfWhole, HeaderWithin}
 use Rattle.laws.specs.Text.{Form, binaries, strings, Plan, under, keyUnder, valueUnder, Fits, Texts, TextsAll, TextsPairs, TextsFields}
 use Rattle.laws.specs.Writing.{Step, Ran, ran, stopped, goOn, run, writeString, writeOf, writeAll, writePairs, writeFields, writeWhole}
@@ -40,16 +43,19 @@ use Rattle.laws.proofs.Kept as kept
 use Rattle.laws.proofs.Kept.{Stand}
 use Rattle.laws.proofs.Spelt.{InField, truthful, valued, in-field}
 
--- a row of calls writes these bytes and ends in this state, wherever there is room
+-- a row of calls, made in a sound state, writes these bytes and ends in this state, wherever there is room and the message may go on so far
 unfoldable pub Runs : List Step → List ℕ → State → State → Type 0
-Runs cs bs st next = (buf : List ℕ) → Ranged (st .limits) → st .depth ≤ st .limits .depth → st .place .0 + length bs ≤ length buf → run cs buf st ≡ ran (putAt buf (st .place .0) bs) next
+Runs cs bs st next = (buf : List ℕ) → Sound (length buf) st → st .place .0 + length bs ≤ length buf → st .place .0 + length bs ≤ cutOf next → run cs buf st ≡ ran (putAt buf (st .place .0) bs) next
 
--- n bytes on, with the same depth, limits and ids below the depth
+-- n bytes on, in the same message, with the same depth, limits and ids below the depth
 abbrev pub stand : State → Stand
-stand st = record { at = st .place .0; depth = st .depth; limits = st .limits; ids = st .ids }
+stand st = record { at = st .place .0; begin = st .begin .0; depth = st .depth; limits = st .limits; ids = st .ids }
 
 abbrev pub Kept : State → State → ℕ → Type 0
 Kept st next n = kept.Kept (stand st) (stand next) n
+
+pub kept-cut : (a b : State) (n : ℕ) → Kept a b n → cutOf b ≡ cutOf a
+kept-cut a b n k = kept.kept-cut (stand a) (stand b) n k
 
 pub kept-then : (a b c : State) (n m : ℕ) → Kept a b n → Kept b c m → Kept a c (n + m)
 kept-then a b c n m f g = kept.kept-then (stand a) (stand b) (stand c) n m f g
@@ -76,35 +82,41 @@ unfolding run
 run-append [] ds buf st b s e = let p : buf ≡ b = ran-buf e in let q : st ≡ s = ran-state e in ap₂ (λ (x : List ℕ) (y : State). run ds x y) p q
 run-append (c ∷ cs) ds buf st b s e = past-one (writes buf st (c st) .answer) _ _ b s (run-append cs ds (leaves buf st (c st)) (writes buf st (c st) .state) b s) e
 
--- n bytes on, under the same limits, no deeper than they let it
+-- n bytes on, under the same limits, no deeper than they let it, in a message that began no later
 pub record Moved (a b : State) (n : ℕ) : Type 0 where
   pub there : b .place .0 ≡ a .place .0 + n
   pub lims : b .limits ≡ a .limits
   pub fine : b .depth ≤ b .limits .depth
+  pub after : b .begin .0 ≤ b .place .0
 
-pub moved : (a b : State) (n : ℕ) → a .depth ≤ a .limits .depth → Kept a b n → Moved a b n
-moved a b n d k = record { there = k .there; lims = k .lims; fine = limit-same a b d n k }
+abbrev pub Moves : State → State → ℕ → Type 0
+Moves a b n = a .depth ≤ a .limits .depth → a .begin .0 ≤ a .place .0 → Moved a b n
 
-pub runs-on : (cs ds : List Step) (bs es : List ℕ) (a b c : State) → Runs cs bs a b → (a .depth ≤ a .limits .depth → Moved a b (length bs)) → Runs ds es b c → Runs (cs ++ ds) (bs ++ es) a c
+pub moved : (a b : State) (n : ℕ) → Kept a b n → Moves a b n
+moved a b n k d h = record { there = k .there; lims = k .lims; fine = limit-same a b d n k; after = omega (arith, k .there, k .begins) }
+
+pub runs-on : (cs ds : List Step) (bs es : List ℕ) (a b c : State) → Runs cs bs a b → Moves a b (length bs) → Runs ds es b c → cutOf c ≡ cutOf b → Runs (cs ++ ds) (bs ++ es) a c
 unfolding Runs
-runs-on cs ds bs es a b c f mv g buf r d h =
-    let k = mv d in
+runs-on cs ds bs es a b c f mv g q buf r h i =
+    let k = mv (r .deep) (r .after) in
     let l = length-append bs es in
-    let first = f buf r d (omega arith) in
+    let first = f buf r (omega arith) (omega arith) in
     let m = length-put buf (a .place .0) bs in
-    let second = g (putAt buf (a .place .0) bs) (subst Ranged (sym (k .lims)) r) (k .fine) (omega (arith, k .there)) in
+    let mid : Sound (length (putAt buf (a .place .0) bs)) b = record { limits = subst Ranged (sym (k .lims)) (r .limits); here = omega (arith, k .there); deep = k .fine; after = k .after; before = omega (arith, k .there) } in
+    let second = g (putAt buf (a .place .0) bs) mid (omega (arith, k .there)) (omega (arith, k .there)) in
     run-append cs ds buf a (putAt buf (a .place .0) bs) b first
     ∙ second
     ∙ ap (λ (x : List ℕ). ran x c) (ap (λ (p : ℕ). putAt (putAt buf (a .place .0) bs) p es) (k .there) ∙ put-put buf (a .place .0) bs es h)
 
-pub runs-then : (cs ds : List Step) (bs es : List ℕ) (a b c : State) → Runs cs bs a b → Kept a b (length bs) → Runs ds es b c → Runs (cs ++ ds) (bs ++ es) a c
-runs-then cs ds bs es a b c f k g = runs-on cs ds bs es a b c f (λ d. moved a b (length bs) d k) g
+pub runs-then : (cs ds : List Step) (bs es : List ℕ) (a b c : State) → Runs cs bs a b → Kept a b (length bs) → Runs ds es b c → Kept b c (length es) → Runs (cs ++ ds) (bs ++ es) a c
+runs-then cs ds bs es a b c f k g j = runs-on cs ds bs es a b c f (moved a b (length bs) k) g (kept-cut b c (length es) j)
 
 -- one call
-pub runs-one : (c : Step) (wrong : ℕ) (bs : List ℕ) (st next : State) → c st ≡ call wrong bs next → wrong ≡ 0 → Runs (c ∷ []) bs st (movedTo next (st .place .0 + length bs))
+pub runs-one : (c : Step) (wrong : ℕ) (bs : List ℕ) (st next : State) → c st ≡ call wrong bs next → wrong ≡ 0 → Follows wrong st next → Runs (c ∷ []) bs st (movedTo next (st .place .0 + length bs))
 unfolding Runs run
-runs-one c wrong bs st next e z buf r d h =
-    let w = goes buf st wrong bs next (record { limits = r; here = omega arith; deep = d }) z h in
+runs-one c wrong bs st next e z f buf r h i =
+    let after : next .begin .0 ≤ next .place .0 = omega (arith, f .place, f .begins (r .after)) in
+    let w = goes buf st wrong bs next r z (cut-lets next after (length bs) (omega (arith, f .place))) h in
     rw (e, w .answers, w .puts)
 
 -- no bool is pending, so what the arguments show decides
@@ -112,16 +124,20 @@ free-turn : (st : State) (w : ℕ) → st .pending .0 ≡ A.Nothing → inTurn s
 unfolding inTurn orElse
 free-turn st w e = ap (λ (a : AwaitedField). orElse (turn a) w) e
 
--- what writing a value gives
-pub record Wrote (cs : List Step) (bs : List ℕ) (st : State) : Type 0 where
+-- what a row of calls gives: the bytes, and a state that is as `from`, its place behind them
+pub record WroteFrom (from : State) (cs : List Step) (bs : List ℕ) (st : State) : Type 0 where
   pub next : State
   pub runs : Runs cs bs st next
-  pub kept : Kept st next (length bs)
+  pub kept : Kept from next (length bs)
   pub same-last : next .last ≡ st .last
   pub free : next .pending .0 ≡ A.Nothing
 
+-- what writing a value gives
+abbrev pub Wrote : List Step → List ℕ → State → Type 0
+Wrote cs bs st = WroteFrom st cs bs st
+
 kept-place : (st : State) (n : ℕ) → Kept st (movedTo st (st .place .0 + n)) n
-kept-place st n = record { there = refl; deep = refl; lims = refl; long = refl; below = λ i h. refl }
+kept-place st n = record { there = refl; begins = refl; deep = refl; lims = refl; long = refl; below = λ i h. refl }
 
 -- no byte
 put-none : (buf : List ℕ) (at : ℕ) → at ≤ length buf → putAt buf at [] ≡ buf
@@ -133,7 +149,7 @@ one-call : (c : Step) (wrong : ℕ) (bs : List ℕ) (st : State) → c st ≡ ca
 one-call c wrong bs st e z f =
     record {
       next = movedTo st (st .place .0 + length bs);
-      runs = runs-one c (inTurn st wrong) bs st st e (free-turn st wrong f ∙ z);
+      runs = runs-one c (inTurn st wrong) bs st st e (free-turn st wrong f ∙ z) (follows.itself _ st);
       kept = kept-place st (length bs);
       same-last = refl;
       free = f;
@@ -144,7 +160,7 @@ wrote-then : (cs ds : List Step) (bs es : List ℕ) (st : State) (f : Wrote cs b
 wrote-then cs ds bs es st f g =
     record {
       next = g .next;
-      runs = runs-then cs ds bs es st (f .next) (g .next) (f .runs) (f .kept) (g .runs);
+      runs = runs-then cs ds bs es st (f .next) (g .next) (f .runs) (f .kept) (g .runs) (g .kept);
       kept = subst (Kept st (g .next)) (sym (length-append bs es)) (kept-then st (f .next) (g .next) (length bs) (length es) (f .kept) (g .kept));
       same-last = g .same-last ∙ f .same-last;
       free = g .free;
@@ -155,8 +171,8 @@ unfolding Runs run
 nothing-wrote st f =
     record {
       next = st;
-      runs = λ buf r d h. ap (λ (b : List ℕ). ran b st) (sym (put-none buf (st .place .0) (omega arith)));
-      kept = record { there = omega arith; deep = refl; lims = refl; long = refl; below = λ i h. refl };
+      runs = λ buf r h i. ap (λ (b : List ℕ). ran b st) (sym (put-none buf (st .place .0) (omega arith)));
+      kept = record { there = omega arith; begins = refl; deep = refl; lims = refl; long = refl; below = λ i h. refl };
       same-last = refl;
       free = f;
     }
@@ -206,7 +222,7 @@ fields-on : (cs ds : List Step) (bs es : List ℕ) (a b : State) → Runs cs bs 
 fields-on cs ds bs es a b r k f =
     record {
       next = f .next;
-      runs = runs-then cs ds bs es a b (f .next) r k (f .runs);
+      runs = runs-then cs ds bs es a b (f .next) r k (f .runs) (f .kept);
       kept = subst (Kept a (f .next)) (sym (length-append bs es)) (kept-then a b (f .next) (length bs) (length es) k (f .kept));
       free = f .free;
     }
@@ -216,16 +232,18 @@ abbrev behind-header : State → ℤ → ℕ → State
 behind-header st id n = movedTo (headed st (idOf id)) (st .place .0 + n)
 
 kept-header : (st : State) (id : ℤ) (n : ℕ) → Kept st (behind-header st id n) n
-kept-header st id n = record { there = refl; deep = refl; lims = refl; long = refl; below = λ i h. refl }
+kept-header st id n = record { there = refl; begins = refl; deep = refl; lims = refl; long = refl; below = λ i h. refl }
 
 -- a bool field: its header is written by the bool call
 bool-field : (st : State) (id : ℤ) (b : Bool) → st .pending .0 ≡ A.Nothing → (bs : List ℕ) → bs ≡ fieldBytes (st .last .0) id (truthCode b) → Runs ((λ s. fieldCall s T.Bool (idOf id)) ∷ ((λ s. boolCall s b) ∷ [])) bs st (movedTo (headed (movedTo (awaiting st (idOf id)) (st .place .0 + 0)) (idOf id)) (st .place .0 + 0 + length bs))
 unfolding fieldCall fieldWrong typeCode boolCall
 bool-field st id b f bs e =
     runs-on ((λ s. fieldCall s T.Bool (idOf id)) ∷ []) ((λ s. boolCall s b) ∷ []) [] bs st (movedTo (awaiting st (idOf id)) (st .place .0 + 0)) _
-    (runs-one (λ s. fieldCall s T.Bool (idOf id)) (inTurn st 0) [] st (awaiting st (idOf id)) refl (free-turn st 0 f))
-    (λ d. record { there = refl; lims = refl; fine = d })
-    (runs-one (λ s. boolCall s b) 0 bs (movedTo (awaiting st (idOf id)) (st .place .0 + 0)) (headed (movedTo (awaiting st (idOf id)) (st .place .0 + 0)) (idOf id)) (ap (λ (x : List ℕ). call 0 x (headed (movedTo (awaiting st (idOf id)) (st .place .0 + 0)) (idOf id))) (sym e)) refl)
+    (runs-one (λ s. fieldCall s T.Bool (idOf id)) (inTurn st 0) [] st (awaiting st (idOf id)) refl (free-turn st 0 f) (follows.before-bool _ st (idOf id)))
+    (λ d h. record { there = refl; lims = refl; fine = d; after = omega arith })
+    (runs-one (λ s. boolCall s b) 0 bs (movedTo (awaiting st (idOf id)) (st .place .0 + 0)) (headed (movedTo (awaiting st (idOf id)) (st .place .0 + 0)) (idOf id)) (ap (λ (x : List ℕ). call 0 x (headed (movedTo (awaiting st (idOf id)) (st .place .0 + 0)) (idOf id))) (sym e)) refl
+    (follows.behind-header _ (movedTo (awaiting st (idOf id)) (st .place .0 + 0)) (idOf id)))
+    refl
 
 field-is : (st : State) (id : ℤ) (t : TType) → 2 < typeCode t → fieldCall st t (idOf id) ≡ call (inTurn st (fieldWrong t)) (fieldBytes (st .last .0) id (typeCode t)) (headed st (idOf id))
 unfolding fieldCall
@@ -238,7 +256,7 @@ field-right t k = rw (stop-free t (omega arith))
 -- a field of another type: its header, behind which its value is written
 value-field : (st : State) (id : ℤ) (t : TType) → st .pending .0 ≡ A.Nothing → 2 < typeCode t → Runs ((λ s. fieldCall s t (idOf id)) ∷ []) (fieldBytes (st .last .0) id (typeCode t)) st (behind-header st id (length (fieldBytes (st .last .0) id (typeCode t))))
 value-field st id t f k =
-    runs-one (λ s. fieldCall s t (idOf id)) (inTurn st (fieldWrong t)) (fieldBytes (st .last .0) id (typeCode t)) st (headed st (idOf id)) (field-is st id t k) (free-turn st (fieldWrong t) f ∙ field-right t k)
+    runs-one (λ s. fieldCall s t (idOf id)) (inTurn st (fieldWrong t)) (fieldBytes (st .last .0) id (typeCode t)) st (headed st (idOf id)) (field-is st id t k) (free-turn st (fieldWrong t) f ∙ field-right t k) (follows.behind-header _ st (idOf id))
 
 -- a struct: begin, its fields and the stop, end
 module _ (st : State) (fs : List Step) (bs : List ℕ) (f : st .pending .0 ≡ A.Nothing) (d : st .depth < st .limits .depth) (l : st .depth < length (st .ids)) where
@@ -267,17 +285,18 @@ module _ (st : State) (fs : List Step) (bs : List ℕ) (f : st .pending .0 ≡ A
     struct-runs =
         subst (λ (x : List ℕ). Runs (structBeginCall ∷ (fs ++ (structEndCall ∷ []))) x st outside) (append-nil bs)
         (runs-on (structBeginCall ∷ []) (fs ++ (structEndCall ∷ [])) [] (bs ++ []) st inside outside
-        (runs-one structBeginCall (inTurn st (beginWrong st)) [] st (entered st) refl begin-right)
-        (λ x. record { there = refl; lims = refl; fine = omega arith })
-        (runs-on fs (structEndCall ∷ []) bs [] inside last-in outside (w .runs) (λ x. moved inside last-in (length bs) x (w .kept))
-        (runs-one structEndCall (inTurn last-in (endWrong last-in)) [] last-in (ended last-in) refl end-right)))
+        (runs-one structBeginCall (inTurn st (beginWrong st)) [] st (entered st) refl begin-right (follows.one-down st))
+        (λ x h. record { there = refl; lims = refl; fine = omega arith; after = omega arith })
+        (runs-on fs (structEndCall ∷ []) bs [] inside last-in outside (w .runs) (moved inside last-in (length bs) (w .kept))
+        (runs-one structEndCall (inTurn last-in (endWrong last-in)) [] last-in (ended last-in) refl end-right (follows.one-up last-in)) refl)
+        (kept-cut inside last-in (length bs) (w .kept)))
 
     -- begun and ended where it stands
     whole-kept : kept.Kept (kept.begun (stand st) (stand last-in) (st .last .0) (length bs) l) (stand last-in) (length bs)
-    whole-kept = record { there = omega (arith, w .kept .there); deep = w .kept .deep; lims = w .kept .lims; long = w .kept .long; below = w .kept .below }
+    whole-kept = record { there = omega (arith, w .kept .there); begins = w .kept .begins; deep = w .kept .deep; lims = w .kept .lims; long = w .kept .long; below = w .kept .below }
 
     outside-kept : Kept st outside (length bs)
-    outside-kept = let k = kept.struct-kept (stand st) (stand last-in) (st .last .0) (length bs) l whole-kept in record { there = omega (arith, k .there); deep = k .deep; lims = k .lims; long = k .long; below = k .below }
+    outside-kept = let k = kept.struct-kept (stand st) (stand last-in) (st .last .0) (length bs) l whole-kept in record { there = omega (arith, k .there); begins = k .begins; deep = k .deep; lims = k .lims; long = k .long; below = k .below }
 
     pub struct-wrote : Wrote (structBeginCall ∷ (fs ++ (structEndCall ∷ []))) bs st
     struct-wrote =
@@ -297,7 +316,7 @@ module _ (plan : Plan) (st : State) (last id : ℤ) (fs : Fields) (e : st .last 
   truth-wrote b =
       let bs : List ℕ = fieldBytes last id (truthCode b) in
       let mid : State = behind-header (movedTo (awaiting st (idOf id)) (st .place .0 + 0)) id (length bs) in
-      let k : Kept st mid (length bs) = record { there = omega arith; deep = refl; lims = refl; long = refl; below = λ i h. refl } in
+      let k : Kept st mid (length bs) = record { there = omega arith; begins = refl; deep = refl; lims = refl; long = refl; below = λ i h. refl } in
       fields-on ((λ s. fieldCall s T.Bool (idOf id)) ∷ ((λ s. boolCall s b) ∷ [])) (writeFields plan fs) bs (bytesOfFields id fs) st mid
       (bool-field st id b f bs (ap (λ (z : ℤ). fieldBytes z id (truthCode b)) (sym e))) k (wf mid (length bs) k refl refl)
 
@@ -350,7 +369,7 @@ module _ (lim : TConfiguration) (ok : Ranged lim) where
   element-wrote st b f =
       record {
         next = movedTo st (st .place .0 + 1);
-        runs = runs-one (λ x. boolCall x b) 0 (truthCode b ∷ []) st st (element-is st b f) refl;
+        runs = runs-one (λ x. boolCall x b) 0 (truthCode b ∷ []) st st (element-is st b f) refl (follows.itself _ st);
         kept = kept-place st 1;
         same-last = refl;
         free = f;
@@ -429,10 +448,25 @@ module _ (lim : TConfiguration) (ok : Ranged lim) where
         t (in-field t)
         (λ b m k p. wrote (under plan id) t depth b (ready-on lim depth st b m r k p) (omega arith) (s .0) (y .1) (x .0))
 
-  -- a whole message: its header with the name, then its struct. "Writing it doesn't" set the last id.
-  pub wrote-whole : (plan : Plan) (m : TMessageType) (z : SeqNo) (name : List ℕ) (fs : Fields) (depth : ℕ) (st : State) → Ready lim depth st → HeaderWithin lim z name → Within lim depth (val.struct fs) → Texts plan (val.struct fs) → Wrote (writeWhole plan m z name fs) (bytesOfWhole m z name fs) st
+  -- a whole message: its header with the name, then its struct. It begins here; "writing it doesn't" set the last id.
+  pub wrote-whole : (plan : Plan) (m : TMessageType) (z : SeqNo) (name : List ℕ) (fs : Fields) (depth : ℕ) (st : State) → Ready lim depth st → HeaderWithin lim z name → Within lim depth (val.struct fs) → Texts plan (val.struct fs) → WroteFrom (begunHere st) (writeWhole plan m z name fs) (bytesOfWhole m z name fs) st
   unfolding writeWhole bytesOfWhole
   wrote-whole plan m z name fs depth st r h w x =
-      let f = one-call (λ c. messageCall c m z name) (textWrong (st .limits) name) (messageBytes m (z .0) name) st refl (text-right (st .limits) name (rw (r .lims) (h .short)) (h .text)) (r .free) in
-      wrote-then ((λ c. messageCall c m z name) ∷ []) (writeOf plan (val.struct fs)) (messageBytes m (z .0) name) (bytesOf (val.struct fs)) st f
-      (wrote plan (val.struct fs) depth (f .next) (ready-on lim depth st (f .next) _ r (f .kept) (f .free)) (w .nested) (w .sized) (w .typed) x)
+      let hs : List ℕ = messageBytes m (z .0) name in
+      let bs : List ℕ = bytesOf (val.struct fs) in
+      let wrong : ℕ = inTurn st (textWrong (st .limits) name) in
+      let right : wrong ≡ 0 = free-turn st (textWrong (st .limits) name) (r .free) ∙ text-right (st .limits) name (rw (r .lims) (h .short)) (h .text) in
+      let mid : State = movedTo (begunHere st) (st .place .0 + length hs) in
+      let k : Kept (begunHere st) mid (length hs) = record { there = refl; begins = refl; deep = refl; lims = refl; long = refl; below = λ i h. refl } in
+      let g = wrote plan (val.struct fs) depth mid (record { lims = r .lims; deep = r .deep; ids = r .ids; free = r .free }) (w .nested) (w .sized) (w .typed) x in
+      record {
+        next = g .next;
+        runs =
+            runs-on ((λ c. messageCall c m z name) ∷ []) (writeOf plan (val.struct fs)) hs bs st mid (g .next)
+            (runs-one (λ c. messageCall c m z name) wrong hs st (begunHere st) refl right (follows.here _ st))
+            (λ d a. record { there = refl; lims = refl; fine = d; after = omega arith })
+            (g .runs) (kept-cut mid (g .next) (length bs) (g .kept));
+        kept = subst (Kept (begunHere st) (g .next)) (sym (length-append hs bs)) (kept-then (begunHere st) mid (g .next) (length hs) (length bs) k (g .kept));
+        same-last = g .same-last;
+        free = g .free;
+      }

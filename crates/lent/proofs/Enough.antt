@@ -4,16 +4,18 @@ use mathlib.Core.Path.{_≡_, refl, sym, ap, _∙_}
 use mathlib.Core.Bool.{true}
 use mathlib.Core.List.{List}
 use native.Mathlib.Omega.{arith}
-use lib.ListN.{length, drop}
+use lib.Dec.{ltb}
+use lib.ListN.{length, take, drop}
 use Rattle.types.specs.declared.TType.{TType}
 use Rattle.types.specs.declared.FieldId.{FieldId}
-use Rattle.heads.specs.Reader.{Reader, readAt}
+use Rattle.heads.specs.Reader.{Reader, readAt, readTo}
+use Rattle.heads.proofs.Cut.{missed-got}
 use Rattle.heads.specs.Heads.{Field, stop, bool, value, field, message}
 use Rattle.heads.proofs.Lawful.{Takes}
 use Rattle.heads.proofs.Readers.{field-takes, message-takes}
 use Rattle.heads.proofs.Steps.{found-at}
-use Rattle.input.specs.State.{State, sound}
-use Rattle.input.specs.Outcome.{Outcome, Said, says, refuses, calls, anew, onField}
+use Rattle.input.specs.State.{State, sound, cutOf}
+use Rattle.input.specs.Outcome.{Outcome, Said, says, refuses, callsTo, calls, cutHere, anew, onField}
 use Rattle.input.specs.Answers.{toField, numberField, numberMessage, numberDone}
 use Rattle.input.specs.Calls.{readMessage, readField}
 use Rattle.input.specs.declared.MessageAnswer.{MessageAnswer}
@@ -33,14 +35,15 @@ use Rattle.lent.specs.declared.Counted.{Counted}
 use Rattle.lent.proofs.Counting.{ends-there, ends-short, ends-past, goes-past, no-message, some-message}
 
 -- a call that reads, by a reader that takes a byte: the state is sound, and the place moves on
-module _ {A : Type 0} (p : State → Reader A) (move : State → A → State) (s : List ℕ) (st : State) where
-  moves : Told (p st) → Takes (p st) → numberOf (calls p move s st .said) ≡ 0 → (sound (length s) st ≡ true) × (st .place .0 < calls p move s st .state .place .0)
-  unfolding readAt
+module _ {A : Type 0} (cut : State → ℕ) (p : State → Reader A) (move : State → A → State) (s : List ℕ) (st : State) where
+  moves : Told (p st) → Takes (p st) → numberOf (callsTo cut p move s st .said) ≡ 0 → (sound (length s) st ≡ true) × (st .place .0 < callsTo cut p move s st .state .place .0)
+  unfolding readTo readAt
   moves told takes z =
-      let l = landed p move s st told z in
-      let g = found-at (st .place .0) (p st (drop (st .place .0) s)) (l .value) (l .end) (l .stood) in
-      let more = takes (drop (st .place .0) s) (l .value) (g .0) (g .1) in
-      let e : calls p move s st .state .place .0 ≡ l .end = ap (λ (o : Outcome A). o .state .place .0) (l .is) in
+      let l = landed cut p move s st told z in
+      let bs = drop (st .place .0) (take (cut st) s) in
+      let g = found-at (st .place .0) (p st bs) (l .value) (l .end) (missed-got (ltb (cut st) (length s)) _ (l .value) (l .end) (l .stood)) in
+      let more = takes bs (l .value) (g .0) (g .1) in
+      let e : callsTo cut p move s st .state .place .0 ≡ l .end = ap (λ (o : Outcome A). o .state .place .0) (l .is) in
       (l .is-sound, omega (arith, more, g .2, e))
 
 numField : (x : Said Field) → numberOf x ≡ numberField (toField x)
@@ -51,11 +54,11 @@ numField (refuses why) = refl
 
 field-moves : (s : List ℕ) (st : State) → numberField (readField s st .answer) ≡ 0 → (sound (length s) st ≡ true) × (st .place .0 < readField s st .state .place .0)
 unfolding readField
-field-moves s st z = moves (λ st. field (st .last .0)) onField s st (field-told (st .last .0)) (field-takes (st .last .0)) (numField (calls (λ st. field (st .last .0)) onField s st .said) ∙ z)
+field-moves s st z = moves cutOf (λ st. field (st .last .0)) onField s st (field-told (st .last .0)) (field-takes (st .last .0)) (numField (calls (λ st. field (st .last .0)) onField s st .said) ∙ z)
 
 message-moves : (s : List ℕ) (st : State) → numberMessage (readMessage s st .answer) ≡ 0 → (sound (length s) st ≡ true) × (st .place .0 < readMessage s st .state .place .0)
 unfolding readMessage
-message-moves s st z = moves (λ st. message (st .limits)) anew s st (message-told (st .limits)) (message-takes (st .limits)) (let o = calls (λ st. message (st .limits)) anew s st in sym (numMessage (o .state .place .0) (o .said)) ∙ z)
+message-moves s st z = moves cutHere (λ st. message (st .limits)) anew s st (message-told (st .limits)) (message-takes (st .limits)) (let o = callsTo cutHere (λ st. message (st .limits)) anew s st in sym (numMessage (o .state .place .0) (o .said)) ∙ z)
 
 -- turns for every byte left, and one more, are enough
 pub enough : (s : List ℕ) (k m : ℕ) → k ≤ m → (at : State) (n : ℕ) → sound (length s) at ≡ true → length s < k + at .place .0 → countFrom m s at n ≡ countFrom k s at n

@@ -1,6 +1,7 @@
 pub mod Checks
 pub mod Cases
 pub mod Laws
+pub mod Stays
 pub mod Back
 pub mod Fields
 pub mod Shortest

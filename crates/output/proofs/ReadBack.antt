@@ -26,7 +26,7 @@ use Rattle.heads.specs.Reader.{Reader, readAt}
 use Rattle.heads.specs.Heads.{int8, int16, int32, int64, double, uuid, truth, binary, text, items, pairs, field, stop, bool, value, message}
 use Rattle.output.specs.State.{State, inTurn}
 use Rattle.puts.specs.Bytes.{above}
-use Rattle.puts.specs.Wrong.{lengthWrong, textWrong, isStop, fieldWrong, countWrong}
+use Rattle.puts.specs.Wrong.{orElse, lengthWrong, textWrong, isStop, fieldWrong, countWrong}
 use Rattle.puts.proofs.Checks.{both-none, length-fits, text-fits}
 use Rattle.output.specs.Calls.{Call, call, writes, leaves, messageCall, fieldCall, stopCall, truthCall, boolCall, i8Call, intCall, doubleCall, uuidCall, bytesCall, stringCall, itemsCall, pairsCall}
 use Rattle.output.specs.declared.AwaitedField.{AwaitedField}

@@ -16,7 +16,7 @@ use Rattle.utf8.specs.Utf8.{utf8, past, decode}
 use Rattle.puts.specs.Wrong.{orElse, lengthWrong, textWrong, fieldWrong, countWrong}
 use Rattle.output.specs.State.{State, idOf, unsound, inTurn, begun, headed}
 use Rattle.puts.specs.Bytes.{shortDelta, fieldBytes, itemsBytes, pairsBytes, stringBytes, messageBytes}
-use Rattle.output.specs.Calls.{Call, settled, writes, leaves, intCall, fieldCall, itemsCall, pairsCall, messageCall}
+use Rattle.output.specs.Calls.{Call, settled, sizeWrong, whyNot, writes, leaves, intCall, fieldCall, itemsCall, pairsCall, messageCall}
 use Rattle.output.specs.declared.WriteAnswer.the-variants as WA
 
 -- a new writer whose last id is this
@@ -64,10 +64,10 @@ abbrev pub T12 : Type 0
 T12 = sent (last (pos 0)) (messageCall (last (pos 0)) M.Call (seq (pos 1)) (0x74 ∷ [])) ≡ 0x82 ∷ 0x21 ∷ 0x01 ∷ 0x01 ∷ 0x74 ∷ []
 
 pub rows : T2 × T5 × T7 × T9 × T11 × T12
-unfolding writes leaves settled orElse unsound inTurn begun inRange defaults fewest wroteAt putAt fieldCall fieldWrong countWrong lengthWrong textWrong shortDelta fieldBytes itemsBytes pairsBytes stringBytes messageBytes typeCode messageCode utf8 past decode
+unfolding writes leaves settled sizeWrong whyNot orElse unsound inTurn begun inRange defaults fewest wroteAt putAt fieldCall fieldWrong countWrong lengthWrong textWrong shortDelta fieldBytes itemsBytes pairsBytes stringBytes messageBytes typeCode messageCode utf8 past decode
 rows = (refl, (refl, refl), refl, (refl, refl), (refl, refl), refl)
 
 -- A count of -1 is refused, and writes nothing.
 pub no-negative : (writes zeros (last (pos 0)) (itemsCall (last (pos 0)) T.I32 (negsuc 0)) .answer ≡ WA.Refused 9) × (sent (last (pos 0)) (itemsCall (last (pos 0)) T.I32 (negsuc 0)) ≡ [])
-unfolding writes leaves settled orElse unsound inTurn begun inRange defaults wroteAt putAt countWrong itemsBytes typeCode
+unfolding writes leaves settled sizeWrong whyNot orElse unsound inTurn begun inRange defaults wroteAt putAt countWrong itemsBytes typeCode
 no-negative = (refl, refl)

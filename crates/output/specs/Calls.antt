@@ -8,7 +8,7 @@ use lib.Dec.{eqb, leb}
 use lib.IntN.{ℤ}
 use mir.Syntax.{w8}
 use mir.Val.{ofZ}
-use Rattle.types.specs.Refusals.{DEPTH, OUT-OF-TURN}
+use Rattle.types.specs.Refusals.{DEPTH, OUT-OF-TURN, MESSAGE-SIZE}
 use Rattle.types.specs.Codes.{typeCode, truthCode}
 use Rattle.types.specs.declared.TType.{TType}
 use Rattle.types.specs.declared.TMessageType.{TMessageType}
@@ -18,7 +18,7 @@ use Rattle.numbers.specs.Fixed.{eight}
 use Rattle.numbers.specs.Answers.{wroteAt, putAt}
 use Rattle.numbers.specs.declared.Wrote.{Wrote}
 use Rattle.numbers.specs.declared.Wrote.the-variants as W
-use Rattle.output.specs.State.{State, unsound, inTurn, movedTo, headed, awaiting, entered, ended}
+use Rattle.output.specs.State.{State, unsound, inTurn, leftOf, begunHere, movedTo, headed, awaiting, entered, ended}
 use Rattle.puts.specs.Bytes.{above, intBytes, fieldBytes, itemsBytes, pairsBytes, stringBytes, messageBytes}
 use Rattle.puts.specs.Wrong.{orElse, lengthWrong, textWrong, fieldWrong, countWrong}
 use Rattle.output.specs.declared.AwaitedField.{AwaitedField}
@@ -42,17 +42,24 @@ unfoldable pub settled : State → State → Wrote → Written
 settled st next (W.To p) = written (movedTo next p)
 settled st next (W.Refused why) = refusedBy st why
 
--- "Order: 15; 12; what the arguments show; 14"
+-- "refuses 19, before NO ROOM, when its call would pass the ceiling": n bytes more than it leaves the message that the state is in
+unfoldable pub sizeWrong : State → ℕ → ℕ
+sizeWrong st n = cond (leb n (leftOf st)) 0 MESSAGE-SIZE
+
+-- "Order: 15; 12; what the arguments show; 19; 14". The ceiling is counted as the state behind the call has it
+unfoldable pub whyNot : List ℕ → State → Call → ℕ
+whyNot buf st (call wrong bs next) = orElse (unsound (length buf) st) (orElse wrong (sizeWrong next (length bs)))
+
 unfoldable pub writes : List ℕ → State → Call → Written
 writes buf st (call wrong bs next) =
-    cond (eqb (orElse (unsound (length buf) st) wrong) 0)
+    cond (eqb (whyNot buf st (call wrong bs next)) 0)
     (settled st next (wroteAt buf (st .place .0) bs))
-    (refusedBy st (orElse (unsound (length buf) st) wrong))
+    (refusedBy st (whyNot buf st (call wrong bs next)))
 
 -- "lent buffers keep their bytes" on a refusal; else the bytes stand at the state's place
 unfoldable pub leaves : List ℕ → State → Call → List ℕ
 leaves buf st (call wrong bs next) =
-    cond (eqb (orElse (unsound (length buf) st) wrong) 0) (putAt buf (st .place .0) bs) buf
+    cond (eqb (whyNot buf st (call wrong bs next)) 0) (putAt buf (st .place .0) bs) buf
 
 -- "a struct is begun .. at the depth limit"
 unfoldable pub beginWrong : State → ℕ
@@ -64,7 +71,7 @@ endWrong st = cond (eqb (st .depth) 0) OUT-OF-TURN 0
 
 -- "writing it doesn't" set the last field id
 abbrev pub messageCall : State → TMessageType → SeqNo → List ℕ → Call
-messageCall st m z name = call (inTurn st (textWrong (st .limits) name)) (messageBytes m (z .0) name) st
+messageCall st m z name = call (inTurn st (textWrong (st .limits) name)) (messageBytes m (z .0) name) (begunHere st)
 
 abbrev pub structBeginCall : State → Call
 structBeginCall st = call (inTurn st (beginWrong st)) [] (entered st)

@@ -2,13 +2,13 @@
 use mathlib.Core.Path.{_≡_, refl, sym, ap, ap₂, _∙_}
 use mathlib.Core.Bool.{Bool, true, false, cond, _&&_}
 use mathlib.Core.List.{List}
-use Prim.Native.Nat.{ℕ, suc, _-_, _*_, _^_, _≤_, _<_}
+use Prim.Native.Nat.{ℕ, suc, _-_, _*_, _^_, _≤_, _<_, min}
 use native.Mathlib.Omega.{arith}
 use borrow.Author.Needs.{sfits-of}
 use borrow.Author.Tests.{eq-eqb, ne-eqb, lt-ltb, le-ltb, le-leb, lt-leb, leb-true, eqb-true}
-use lib.Dec.{eqb, leb}
+use lib.Dec.{eqb, leb, ltb}
 use lib.IntN.{ℤ, pos}
-use lib.ListN.{length}
+use lib.ListN.{length, take}
 use Rattle.types.proofs.Limits.{both}
 use Rattle.types.specs.Refusals.{DEPTH, NO-ROOM, BAD-LIST}
 use Rattle.types.specs.declared.Place.{Place}
@@ -18,8 +18,10 @@ use Rattle.types.specs.declared.TConfiguration.{TConfiguration}
 use Rattle.types.specs.Value as val
 use Rattle.types.specs.Value.{Tree}
 use Rattle.numbers.specs.Varint.{Found, got, refused}
-use Rattle.heads.specs.Reader.{readAt}
-use Rattle.input.specs.State.{State, gate, movedTo}
+use Rattle.heads.specs.Reader.{readAt, missing, missed}
+use Rattle.heads.proofs.Cut.{cut-is}
+use Rattle.input.proofs.Cases.{cut-inside, cut-counts}
+use Rattle.input.specs.State.{State, cutOf, gate, movedTo}
 use Rattle.input.specs.Outcome.{Said, says, refuses, Outcome, answers, declines, from, stays}
 use Rattle.input.specs.Answers.{asDone}
 use Rattle.input.specs.declared.ReadDone.{ReadDone}
@@ -43,36 +45,39 @@ module _ (s : List ℕ) (st : State) (d : st .depth < st .limits .depth) where
       let e : roomOf st ≡ suc (roomOf st - 1) = omega arith in
       ap (λ (n : ℕ). skipOf s (st .limits) n T.Struct (st .place .0)) e ∙ sym (struct-in s (st .limits) (roomOf st - 1) (st .place .0))
 
-  module _ (r : Skipped) (f : r ≡ skipOf s (st .limits) (roomOf st) T.Struct (st .place .0)) where
-    pub struct-no : (why : ℕ) → r ≡ Refused why → onStruct s st ≡ declines why st
-    unfolding onStruct
-    struct-no why g = ap (from stays st) (refused-past _ s (st .place .0) why (sym as-skip ∙ sym f ∙ g))
+-- up to the state's cut
+module _ (s : List ℕ) (st : State) (d : st .depth < st .limits .depth) (end : ℕ) (o : end ≡ min (cutOf st) (length s)) (r : Skipped) (f : r ≡ skipOf (take end s) (st .limits) (roomOf st) T.Struct (st .place .0)) where
+  pub struct-no : (why n : ℕ) → r ≡ Refused why → n ≡ missing (ltb end (length s)) why → onStruct s st ≡ declines n st
+  unfolding onStruct
+  struct-no why n g k =
+      ap (from stays st) (cut-is (fields val.truth (valueOf (st .limits) (roomOf st - 1)) (pos 0)) s (cutOf st) (st .place .0) end o ∙ ap (missed (ltb end (length s))) (refused-past _ (take end s) (st .place .0) why (sym (as-skip (take end s) st d) ∙ sym f ∙ g)))
+      ∙ ap (λ (i : ℕ). declines i st) (sym k)
 
-    pub struct-yes : (q : Place) → r ≡ Done q → (fs : List (Entry Tree)) × (readAt (fields val.truth (valueOf (st .limits) (roomOf st - 1)) (pos 0)) s (st .place .0) ≡ got fs (q .0)) × (onStruct s st ≡ answers fs (movedTo st q))
-    unfolding onStruct
-    struct-yes q g =
-        let x = read-past _ s (st .place .0) q (sym as-skip ∙ sym f ∙ g) in
-        (x .0, x .1, ap (from stays st) (x .1))
+  pub struct-yes : (q : Place) → r ≡ Done q → (fs : List (Entry Tree)) × (readAt (fields val.truth (valueOf (st .limits) (roomOf st - 1)) (pos 0)) (take end s) (st .place .0) ≡ got fs (q .0)) × (onStruct s st ≡ answers fs (movedTo st q))
+  unfolding onStruct
+  struct-yes q g =
+      let x = read-past _ (take end s) (st .place .0) q (sym (as-skip (take end s) st d) ∙ sym f ∙ g) in
+      (x .0, x .1, ap (from stays st) (cut-is (fields val.truth (valueOf (st .limits) (roomOf st - 1)) (pos 0)) s (cutOf st) (st .place .0) end o ∙ ap (missed (ltb end (length s))) (x .1)))
 
-    module _ (ids : List ℤ) (kinds rows : List ℕ) where
-      pub no-answer : (why : ℕ) → r ≡ Refused why → asDone (declines why st) ≡ asDone (forgets (onStruct s st))
-      no-answer why g = sym (ap (λ (o : Outcome (List (Entry Tree))). asDone (forgets o)) (struct-no why g))
+  module _ (ids : List ℤ) (kinds rows : List ℕ) where
+    pub no-answer : (why n : ℕ) → r ≡ Refused why → n ≡ missing (ltb end (length s)) why → asDone (declines n st) ≡ asDone (forgets (onStruct s st))
+    no-answer why n g k = sym (ap (λ (o : Outcome (List (Entry Tree))). asDone (forgets o)) (struct-no why n g k))
 
-      pub no-rows : (why : ℕ) → r ≡ Refused why → rows ≡ written ids kinds (st .place .0) (onStruct s st .said) rows
-      no-rows why g = sym (ap (λ (o : Outcome (List (Entry Tree))). written ids kinds (st .place .0) (o .said) rows) (struct-no why g))
+    pub no-rows : (why n : ℕ) → r ≡ Refused why → n ≡ missing (ltb end (length s)) why → rows ≡ written ids kinds (st .place .0) (onStruct s st .said) rows
+    no-rows why n g k = sym (ap (λ (o : Outcome (List (Entry Tree))). written ids kinds (st .place .0) (o .said) rows) (struct-no why n g k))
 
-      pub yes-answer : (q : Place) → r ≡ Done q → asDone (answers tt (movedTo st q)) ≡ asDone (forgets (onStruct s st))
-      yes-answer q g = sym (ap (λ (o : Outcome (List (Entry Tree))). asDone (forgets o)) (struct-yes q g .2))
+    pub yes-answer : (q : Place) → r ≡ Done q → asDone (answers tt (movedTo st q)) ≡ asDone (forgets (onStruct s st))
+    yes-answer q g = sym (ap (λ (o : Outcome (List (Entry Tree))). asDone (forgets o)) (struct-yes q g .2))
 
-      pub yes-rows : (q : Place) (rows₁ rows₂ : List ℕ) → r ≡ Done q → length kinds ≡ length ids → 3 * length ids ≤ length rows → rows₁ ≡ clear (length ids) 0 rows → ((fs : List (Entry Tree)) (e : ℕ) → readAt (fields val.truth (valueOf (st .limits) (roomOf st - 1)) (pos 0)) s (st .place .0) ≡ got fs e → rows₂ ≡ noteAll ids kinds fs (st .place .0) rows₁) → rows₂ ≡ written ids kinds (st .place .0) (onStruct s st .said) rows
-      yes-rows q rows₁ rows₂ g l h c n =
-          let y = struct-yes q g in
-          n (y .0) (q .0) (y .1)
-          ∙ ap (noteAll ids kinds (y .0) (st .place .0)) c
-          ∙ noted (y .0) (st .place .0) ids kinds rows l h
-          ∙ sym (ap (λ (o : Outcome (List (Entry Tree))). written ids kinds (st .place .0) (o .said) rows) (y .2))
+    pub yes-rows : (q : Place) (rows₁ rows₂ : List ℕ) → r ≡ Done q → length kinds ≡ length ids → 3 * length ids ≤ length rows → rows₁ ≡ clear (length ids) 0 rows → ((fs : List (Entry Tree)) (e : ℕ) → readAt (fields val.truth (valueOf (st .limits) (roomOf st - 1)) (pos 0)) (take end s) (st .place .0) ≡ got fs e → rows₂ ≡ noteAll ids kinds fs (st .place .0) rows₁) → rows₂ ≡ written ids kinds (st .place .0) (onStruct s st .said) rows
+    yes-rows q rows₁ rows₂ g l h c n =
+        let y = struct-yes q g in
+        n (y .0) (q .0) (y .1)
+        ∙ ap (noteAll ids kinds (y .0) (st .place .0)) c
+        ∙ noted (y .0) (st .place .0) ids kinds rows l h
+        ∙ sym (ap (λ (o : Outcome (List (Entry Tree))). written ids kinds (st .place .0) (o .said) rows) (y .2))
 
-pub ruleset on-cases = (no-answer, no-rows, yes-answer, yes-rows)
+pub ruleset on-cases = (cut-inside, cut-counts, no-answer, no-rows, yes-answer, yes-rows)
 
 -- pick
 -- a list that passes: as many types as ids, and no more than 64

@@ -3,7 +3,7 @@
 use mathlib.Core.Path.{_≡_, refl, sym, ap, ap₂, subst, _∙_}
 use mathlib.Core.Bool.{Bool, true, false, cond, _&&_, not}
 use mathlib.Core.List.{List, _++_}
-use Prim.Native.Nat.{ℕ, suc, _+_, _-_, _*_, _≤_, _<_}
+use Prim.Native.Nat.{ℕ, suc, _+_, _-_, _*_, _≤_, _<_, min}
 use native.Mathlib.Omega.{arith}
 use borrow.Author.Tests.{eq-eqb, ne-eqb, ltb-true, ltb-false, leb-true, leb-false}
 use lib.Dec.{eqb, leb, ltb}
@@ -17,8 +17,8 @@ use Rattle.types.specs.declared.TType.the-variants as T
 use Rattle.types.specs.Value as val
 use Rattle.types.specs.Value.{Tree}
 use Rattle.numbers.specs.Varint.{Found, got, refused, placed}
-use Rattle.heads.specs.Reader.{readAt, refuse}
-use Rattle.input.specs.State.{State, sound, waits, gate, movedTo}
+use Rattle.heads.specs.Reader.{readAt, refuse, missing}
+use Rattle.input.specs.State.{State, cutOf, sound, waits, gate, movedTo}
 use Rattle.input.specs.Outcome.{Said, says, refuses, Outcome, answers, declines, guarded, from, stays}
 use Rattle.input.specs.Answers.{asDone, numberDone}
 use Rattle.input.specs.declared.Awaited.{Awaited}
@@ -29,7 +29,7 @@ use Rattle.input.proofs.Gate.{Gated, bad, turn, through, gated}
 use Rattle.input.proofs.Laws.{any, CallLaws, not-true}
 use Rattle.skip.specs.Walk.{Entry, fields}
 use Rattle.skip.specs.Value.{valueOf}
-use Rattle.skip.specs.Skip.{skipOf, over, roomOf, awaited, skips, skipCall}
+use Rattle.skip.specs.Skip.{skipOf, skipTo, over, roomOf, awaited, skips, skipCall}
 use Rattle.skip.specs.declared.Skipped.{Skipped}
 use Rattle.skip.specs.declared.Skipped.the-variants.{Done, Refused}
 use Rattle.skip.proofs.Past.{past-refuse}
@@ -38,6 +38,7 @@ use Rattle.wanted.specs.Wanted.{listed}
 use Rattle.picker.specs.Pick.{onStruct, picks, forgets, pickCall, written, pickedRows}
 use Rattle.picker.proofs.Call.{struct-no, struct-yes, goes-on}
 use Rattle.skip.proofs.Call.{nothing-waits}
+use Rattle.skip.proofs.Cut.{ofCut, skip-cut}
 
 -- the gate of a sound state with no bool pending, and what skip does there
 module _ (s : List ℕ) (st : State) where
@@ -54,22 +55,38 @@ module _ (s : List ℕ) (st : State) where
       go W.Nothing x = let z : _≡_ {A = ℕ} 0 1 = cc in absurd (omega arith)
       go (W.Truth b) x = refl
 
-  skip-through : sound (length s) st ≡ true → waits (st .pending .0) ≡ false → skips T.Struct s st ≡ over st (skipOf s (st .limits) (roomOf st) T.Struct (st .place .0))
+  skip-through : sound (length s) st ≡ true → waits (st .pending .0) ≡ false → skips T.Struct s st ≡ over st (skipTo s (cutOf st) (st .limits) (roomOf st) T.Struct (st .place .0))
   unfolding skips
   skip-through e w = rw (e, nothing-waits (st .pending .0) w)
 
+  -- the skip that the code makes, up to the state's cut
+  the-end : ℕ
+  the-end = min (cutOf st) (length s)
+
+  cut-skip : (x : Skipped) → skipOf (take the-end s) (st .limits) (roomOf st) T.Struct (st .place .0) ≡ x → ofCut (ltb the-end (length s)) x ≡ skipTo s (cutOf st) (st .limits) (roomOf st) T.Struct (st .place .0)
+  unfolding the-end
+  cut-skip x f = skip-cut s (cutOf st) (st .limits) (roomOf st) T.Struct (st .place .0) (min (cutOf st) (length s)) refl x x (sym f) refl
+
   -- no room: DEPTH, before the first byte
-  shut-out : st .limits .depth ≤ st .depth → skipOf s (st .limits) (roomOf st) T.Struct (st .place .0) ≡ Refused DEPTH
+  shut-in : (t : List ℕ) → st .limits .depth ≤ st .depth → skipOf t (st .limits) (roomOf st) T.Struct (st .place .0) ≡ Refused DEPTH
   unfolding skipOf valueOf
-  shut-out d = let e : roomOf st ≡ 0 = omega arith in rw e (past-refuse Tree DEPTH s (st .place .0))
+  shut-in t d = let e : roomOf st ≡ 0 = omega arith in rw e (past-refuse Tree DEPTH t (st .place .0))
+
+  not-missed : (b : Bool) → missing b DEPTH ≡ DEPTH
+  not-missed true = refl
+  not-missed false = refl
+
+  shut-out : st .limits .depth ≤ st .depth → skipTo s (cutOf st) (st .limits) (roomOf st) T.Struct (st .place .0) ≡ Refused DEPTH
+  shut-out d = sym (cut-skip (Refused DEPTH) (shut-in (take the-end s) d)) ∙ ap Refused (not-missed (ltb the-end (length s)))
 
   -- what the struct's own walk says, skip says
-  on-skip : st .depth < st .limits .depth → asDone (forgets (onStruct s st)) ≡ asDone (over st (skipOf s (st .limits) (roomOf st) T.Struct (st .place .0)))
-  on-skip d = go (skipOf s (st .limits) (roomOf st) T.Struct (st .place .0)) refl
+  on-skip : st .depth < st .limits .depth → asDone (forgets (onStruct s st)) ≡ asDone (over st (skipTo s (cutOf st) (st .limits) (roomOf st) T.Struct (st .place .0)))
+  unfolding the-end
+  on-skip d = go (skipOf (take the-end s) (st .limits) (roomOf st) T.Struct (st .place .0)) refl
     where
-      go : (x : Skipped) → skipOf s (st .limits) (roomOf st) T.Struct (st .place .0) ≡ x → asDone (forgets (onStruct s st)) ≡ asDone (over st (skipOf s (st .limits) (roomOf st) T.Struct (st .place .0)))
-      go (Done q) f = ap (λ (o : Outcome (List (Entry Tree))). asDone (forgets o)) (struct-yes s st d (Done q) (sym f) q refl .2) ∙ sym (ap (λ (x : Skipped). asDone (over st x)) f)
-      go (Refused why) f = ap (λ (o : Outcome (List (Entry Tree))). asDone (forgets o)) (struct-no s st d (Refused why) (sym f) why refl) ∙ sym (ap (λ (x : Skipped). asDone (over st x)) f)
+      go : (x : Skipped) → skipOf (take the-end s) (st .limits) (roomOf st) T.Struct (st .place .0) ≡ x → asDone (forgets (onStruct s st)) ≡ asDone (over st (skipTo s (cutOf st) (st .limits) (roomOf st) T.Struct (st .place .0)))
+      go (Done q) f = ap (λ (o : Outcome (List (Entry Tree))). asDone (forgets o)) (struct-yes s st d the-end refl (Done q) (sym f) q refl .2) ∙ ap (λ (x : Skipped). asDone (over st x)) (cut-skip (Done q) f)
+      go (Refused why) f = ap (λ (o : Outcome (List (Entry Tree))). asDone (forgets o)) (struct-no s st d the-end refl (Refused why) (sym f) why _ refl refl) ∙ ap (λ (x : Skipped). asDone (over st x)) (cut-skip (Refused why) f)
 
   module _ (ids : List ℤ) (kinds : List ℕ) (n : ℕ) (l : listed ids kinds ≡ true) (h : leb (3 * length ids) n ≡ true) where
     by-depth : (b : Bool) → ltb (st .depth) (st .limits .depth) ≡ b → gate (length s) st ≡ 0 → sound (length s) st ≡ true → waits (st .pending .0) ≡ false → pickCall ids kinds n s st ≡ skipCall s st T.Struct

@@ -6,3 +6,4 @@ pub mod Call
 pub mod Laws
 pub mod Went
 pub mod Table
+pub mod Ceiling

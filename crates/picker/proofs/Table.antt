@@ -8,7 +8,7 @@ use Rattle.types.specs.Refusals.{END, DEPTH, NO-ROOM, BAD-LIST}
 use Rattle.types.specs.Codes.{typeCode, typeByNumber, elementType, fieldType}
 use Rattle.types.specs.Limits.{inRange, defaults}
 use Rattle.types.specs.Value.{typeOf}
-use Rattle.heads.specs.Reader.{done, refuse, andThen, provided, byte, some, readAt, ahead, backed}
+use Rattle.heads.specs.Reader.{done, refuse, andThen, provided, byte, some, readAt, readTo, ahead, backed}
 use Rattle.heads.specs.Heads.{int8, number32, number64, int16, int32, int64, double, uuid, truth, binary, counted, listed, items, mapped, pairs, itemsHead, pairsHead, fieldId, field}
 use Rattle.heads.specs.Answers.{place}
 use Rattle.heads.proofs.Samples.{structFrame}
@@ -66,5 +66,5 @@ Samples =
     × (pickCall (pos 3 ∷ []) (2 ∷ []) 3 two start ≡ asDone (declines BAD-LIST start))
 
 pub rows : T13 × Samples
-unfolding Samples fresh defaults inRange sound gate pickedRows pickCall picks onStruct ownFrom rowOf lastOf occurs answer rowsOf wanted.sameId wanted.among wanted.distinct wanted.wantable wanted.wantables wanted.listed typeOf typeCode typeByNumber elementType fieldType readAt valueOf fields walk sizing many manyPairs done refuse andThen provided byte some int8 number32 number64 int16 int32 int64 double uuid truth binary counted listed items mapped pairs ahead backed itemsHead pairsHead fieldId field
+unfolding Samples fresh defaults inRange sound gate pickedRows pickCall picks onStruct ownFrom rowOf lastOf occurs answer rowsOf wanted.sameId wanted.among wanted.distinct wanted.wantable wanted.wantables wanted.listed typeOf typeCode typeByNumber elementType fieldType readAt readTo valueOf fields walk sizing many manyPairs done refuse andThen provided byte some int8 number32 number64 int16 int32 int64 double uuid truth binary counted listed items mapped pairs ahead backed itemsHead pairsHead fieldId field
 rows = ((refl, refl, refl, refl), (refl, refl, refl, refl, refl, refl, refl, refl, refl, refl, refl))

@@ -20,13 +20,15 @@ use Rattle.types.specs.Value as val
 use Rattle.types.specs.Value.{Tree, typeOf}
 use Rattle.numbers.specs.Varint.{Found, got, refused, placed}
 use Rattle.numbers.proofs.Found.{as-long, same-part}
-use Rattle.heads.specs.Reader.{Reader, done, andThen, readAt}
+use Rattle.heads.specs.Reader.{Reader, done, andThen, readAt, readTo}
+use Rattle.heads.proofs.Ahead.{lawful-fair}
+use Rattle.heads.proofs.Cut.{was-cut, cut-whole, whole-cut}
 use Rattle.heads.specs.Heads.{Field, stop, bool, value, field}
 use Rattle.heads.specs.Answers.{place}
 use Rattle.heads.specs.Spells.{Formed}
 use Rattle.heads.proofs.Lawful.{Lawful, same, not-both}
 use Rattle.heads.proofs.Steps.{found-at, step, done-at}
-use Rattle.input.specs.State.{State, sound, waits, gate, movedTo}
+use Rattle.input.specs.State.{State, cutOf, sound, waits, gate, movedTo}
 use Rattle.input.specs.Outcome.{Said, says, refuses, Outcome, answers, declines, from, stays}
 use Rattle.input.specs.Answers.{asDone}
 use Rattle.input.specs.declared.DoneAnswer.the-variants as N
@@ -58,6 +60,7 @@ module _ (ids : List ℤ) (kinds : List ℕ) (n : ℕ) (st : State) where
     pub deep : st .depth < st .limits .depth
     pub fits : 3 * length ids ≤ n
     pub reads : readAt (own st) s (st .place .0) ≡ got fs e
+    pub before : e ≤ cutOf st
 
   module _ (s : List ℕ) where
     gate-free : sound (length s) st ≡ true → waits (st .pending .0) ≡ false → gate (length s) st ≡ 0
@@ -67,16 +70,19 @@ module _ (ids : List ℤ) (kinds : List ℕ) (n : ℕ) (st : State) where
     pub went-is : (fs : List (Entry Tree)) (e : ℕ) → Went s fs e → picks ids kinds n s st ≡ answers fs (movedTo st (place e))
     unfolding picks onStruct
     went-is fs e w =
-        rw (gate-free (w .sounds) (w .free), w .fine, lt-ltb (st .depth) (st .limits .depth) (w .deep), le-leb (3 * length ids) n (w .fits)) (ap (from stays st) (w .reads))
+        rw (gate-free (w .sounds) (w .free), w .fine, lt-ltb (st .depth) (st .limits .depth) (w .deep), le-leb (3 * length ids) n (w .fits)) (ap (from stays st) (whole-cut (own st) s (cutOf st) (st .place .0) fs e (own-lawful st) (w .before) (w .reads)))
 
     pub went : (fs : List (Entry Tree)) → picks ids kinds n s st .said ≡ says fs → (e : ℕ) × Went s fs e
     unfolding picks onStruct
     went fs h = go (gated (length s) st) (listed ids kinds) refl (ltb (st .depth) (st .limits .depth)) refl (leb (3 * length ids) n) refl
       where
-        stood : sound (length s) st ≡ true → waits (st .pending .0) ≡ false → listed ids kinds ≡ true → st .depth < st .limits .depth → 3 * length ids ≤ n → (x : Found (List (Entry Tree))) → readAt (own st) s (st .place .0) ≡ x → from stays st x .said ≡ says fs → (e : ℕ) × Went s fs e
+        stood : sound (length s) st ≡ true → waits (st .pending .0) ≡ false → listed ids kinds ≡ true → st .depth < st .limits .depth → 3 * length ids ≤ n → (x : Found (List (Entry Tree))) → readTo (own st) s (cutOf st) (st .place .0) ≡ x → from stays st x .said ≡ says fs → (e : ℕ) × Went s fs e
         stood f w l d r (got gs e) q y =
             let z : gs ≡ fs = cc in
-            (e, record { sounds = f; free = w; fine = l; deep = d; fits = r; reads = q ∙ ap (λ (k : List (Entry Tree)). got k e) z })
+            let o = is-sound (length s) st f in
+            let l′ = lawful-fair (own st) (own-lawful st) in
+            let k = was-cut (own st) s (cutOf st) (st .place .0) gs e l′ (o .before) (o .here) q in
+            (e, record { sounds = f; free = w; fine = l; deep = d; fits = r; reads = cut-whole (own st) s (cutOf st) (st .place .0) gs e l′ k ∙ ap (λ (x : List (Entry Tree)). got x e) z; before = k .before })
         stood f w l d r (refused why) q y = not-said y
 
         go : Gated (length s) st → (a : Bool) → listed ids kinds ≡ a → (b : Bool) → ltb (st .depth) (st .limits .depth) ≡ b → (c : Bool) → leb (3 * length ids) n ≡ c → (e : ℕ) × Went s fs e
@@ -85,7 +91,7 @@ module _ (ids : List ℤ) (kinds : List ℕ) (n : ℕ) (st : State) where
         go (through f w g) false l b d c r = not-said (rw (g, l) at h)
         go (through f w g) true l false d c r = not-said (rw (g, l, d) at h)
         go (through f w g) true l true d false r = not-said (rw (g, l, d, r) at h)
-        go (through f w g) true l true d true r = stood f w l (ltb-true _ _ d) (leb-true _ _ r) (readAt (own st) s (st .place .0)) refl (rw (g, l, d, r) at h)
+        go (through f w g) true l true d true r = stood f w l (ltb-true _ _ d) (leb-true _ _ r) (readTo (own st) s (cutOf st) (st .place .0)) refl (rw (g, l, d, r) at h)
 
   -- where it ended
   pub went-inside : (s : List ℕ) (fs : List (Entry Tree)) (e : ℕ) → Went s fs e → (st .place .0 ≤ e) × (e ≤ length s)
@@ -107,12 +113,13 @@ module _ (ids : List ℤ) (kinds : List ℕ) (n : ℕ) (st : State) where
       let long : e ≤ length t = as-long e s t (i .1) q in
       let again : own st (drop at t) ≡ got fs (g .0) = same (own st) (own-lawful st) (drop at s) (drop at t) fs (g .0) (g .1) (same-part at (g .0) e s t (g .2) q) in
       record {
-        sounds = sound-is (length t) st (record { limits = k .limits; here = omega (arith, i .0); deep = k .deep });
+        sounds = sound-is (length t) st (record { limits = k .limits; here = omega (arith, i .0); deep = k .deep; after = k .after; before = k .before });
         free = w .free;
         fine = w .fine;
         deep = w .deep;
         fits = w .fits;
         reads = ap (placed at) again ∙ ap (got fs) (g .2);
+        before = w .before;
       }
 
 module _ (ids : List ℤ) (kinds : List ℕ) (st : State) (rows : List ℕ) (s t : List ℕ) where

@@ -10,8 +10,8 @@ use Rattle.types.specs.Refusals.{DEPTH, NO-ROOM, BAD-LIST}
 use Rattle.types.specs.Codes.{typeCode}
 use Rattle.types.specs.Value as val
 use Rattle.types.specs.Value.{Tree, typeOf}
-use Rattle.heads.specs.Reader.{readAt}
-use Rattle.input.specs.State.{State}
+use Rattle.heads.specs.Reader.{readTo}
+use Rattle.input.specs.State.{State, cutOf}
 use Rattle.input.specs.Outcome.{Said, says, refuses, Outcome, declines, guarded, from, stays}
 use Rattle.input.specs.Answers.{asDone}
 use Rattle.input.specs.declared.ReadDone.{ReadDone}
@@ -100,7 +100,7 @@ rowsOf (id ∷ ids) (k ∷ kinds) fs = let r = answer id k fs in r .kind ∷ r .
 
 -- what the input shows: the fields directly in the struct at the reader's place, and the reader behind it
 unfoldable pub onStruct : List ℕ → State → Outcome (List (Entry Tree))
-onStruct s st = from stays st (readAt (fields val.truth (valueOf (st .limits) (roomOf st - 1)) (pos 0)) s (st .place .0))
+onStruct s st = from stays st (readTo (fields val.truth (valueOf (st .limits) (roomOf st - 1)) (pos 0)) s (cutOf st) (st .place .0))
 
 -- the call, with room for n numbers lent: "Order: 15; 12; .. 16 .. 10 ..; 14; then what the input shows"
 unfoldable pub picks : List ℤ → List ℕ → ℕ → List ℕ → State → Outcome (List (Entry Tree))

@@ -185,16 +185,25 @@ fn pick_on(
     ensures { λ r. ⌜ (r ≡ asDone (forgets (onStruct (now (s .entry)) state))) × (now (rows .exit) ≡ written (now (ids .entry)) (now (kinds .entry)) (state .place .0) (onStruct (now (s .entry)) state .said) (now (rows .entry))) ⌝ }
 {
     let room = state.limits.depth - state.depth;
-    match skip_value(s, state.place, TType::Struct, room, state.limits) {
+    let end = state.cut(s.len());
+    match skip_value(&s[..end], state.place, TType::Struct, room, state.limits) {
         Skipped::Refused(why) => ReadDone {
-            answer: DoneAnswer::Refused(why),
+            answer: DoneAnswer::Refused(input::missing(why, end, s.len())),
             state,
         },
-        Skipped::Done(end) => {
+        Skipped::Done(to) => {
             clear_rows(rows, ids.len());
-            note_struct(s, state.place, room - 1, state.limits, ids, kinds, rows);
+            note_struct(
+                &s[..end],
+                state.place,
+                room - 1,
+                state.limits,
+                ids,
+                kinds,
+                rows,
+            );
             let mut next = state;
-            next.place = end;
+            next.place = to;
             ReadDone {
                 answer: DoneAnswer::Done,
                 state: next,

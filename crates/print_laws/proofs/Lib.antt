@@ -1,3 +1,4 @@
 pub mod Tale
 pub mod Text
 pub mod Enough
+pub mod Uncut

@@ -34,9 +34,9 @@ prints t s at p = ended (placed at (t (drop at s) .found)) (inked (lines (t (dro
 unfoldable pub messageTold : TConfiguration → ℕ → Teller Tree
 messageTold lim room = thenTell (quiet (heads.message lim)) (λ m. aloud (row.message (m .0) (m .1) (m .2)) (valueTold lim room T.Struct))
 
--- "limits 64, 65,536, 65,536"
+-- "limits 64, 65,536, 65,536"; "The printer's ceiling is 65,536", which no input that is printed passes (`uncut` in print_laws)
 abbrev pub limits : TConfiguration
-limits = record { depth = 64; string = 65536; container = 65536 }
+limits = record { depth = 64; string = 65536; container = 65536; message = 65536 }
 
 -- "At the end `end USED LEFT`, or `refused N` after the lines so far"
 abbrev pub ending : {A : Type 0} → ℕ → Found A → Item

@@ -437,6 +437,7 @@ fn print_whole(s: &[u8], out: &mut [u8]) -> Text
         depth: TConfiguration::MAX_DEPTH,
         string: MOST_SIZE,
         container: MOST_SIZE,
+        message: MOST_SIZE,
     };
     match print_message(s, TConfiguration::MAX_DEPTH, limits, out, 0) {
         Printed::Went(end, to) => {

@@ -316,3 +316,41 @@ module _ (m : TMessageType) (c : ℕ) (e : c ≡ messageCode m) where
   message-is b y z name f g = rw (e, f, g)
 
 pub ruleset message-cases = (kind-scaled, kind-versioned, message-is, same-to, same-left, toZ-ofZ, sfits-of)
+
+-- message_head
+pub head-two : (n a : ℕ) → a ≡ length (fewest n) → Fits w64 (2 + a)
+head-two n a e = record { fits = omega (arith, fewest-len n) }
+
+pub head-three : (n m a b : ℕ) → a ≡ length (fewest n) → b ≡ length (fewest m) → Fits w64 (2 + a + b)
+head-three n m a b e f = record { fits = omega (arith, fewest-len n, fewest-len m) }
+
+pub head-is : (bits m a b : ℕ) (y z : ℤ) → a ≡ length (fewest bits) → bits ≡ ofZ w32 y → y ≡ z → b ≡ length (fewest m) → 2 + a + b ≡ 2 + length (fewest (ofZ w32 z)) + length (fewest m)
+head-is bits m a b y z e f g h = rw (e, f, g, h)
+
+pub ruleset head-cases = (head-two, head-three, head-is, toZ-ofZ, sfits-of)
+
+-- field_len, items_len, pairs_len
+module _ (last id l i : ℤ) (d code : ℕ) (e : d ≡ shortDelta l i) (x : l ≡ last) (y : i ≡ id) where
+  pub length-short : (d ≡ 0 → ⊥) → 1 ≡ length (fieldBytes last id (code % 16))
+  length-short h = ap length (header-short last id l i d code e x y h)
+
+  pub length-long : (n k : ℕ) (w : ℤ) → d ≡ 0 → n ≡ zigzag w → w ≡ id → k ≡ length (fewest n) → 1 + k ≡ length (fieldBytes last id (code % 16))
+  length-long n k w h f g q = omega (arith, q, ap length (header-long last id l i d code e x y n w h f g))
+
+pub ruleset field-len-cases = (length-short, length-long, more-fits, wide, wide-fits, toZ-ofZ, sfits-of)
+
+module _ (t : TType) (n : ℕ) where
+  pub items-one : n < 15 → 1 ≡ length (itemsBytes t n)
+  items-one h = ap length (items-short t n (typeCode t) refl h)
+
+  pub items-more : (k : ℕ) → 15 ≤ n → k ≡ length (fewest n) → 1 + k ≡ length (itemsBytes t n)
+  items-more k h q = omega (arith, q, ap length (items-long t n (typeCode t) refl h))
+
+module _ (k v : TType) (n : ℕ) where
+  pub pairs-one : n ≡ 0 → 1 ≡ length (pairsBytes k v n)
+  pairs-one h = ap length (pairs-none k v n h)
+
+  pub pairs-more : (m : ℕ) → (n ≡ 0 → ⊥) → m ≡ length (fewest n) → m + 1 ≡ length (pairsBytes k v n)
+  pairs-more m h q = omega (arith, q, ap length (pairs-some k v n (typeCode k) (typeCode v) refl refl h), length-append (fewest n) ((typeCode k * 16 + typeCode v) ∷ []))
+
+pub ruleset len-cases = (items-one, items-more, pairs-one, pairs-more, more-fits, fits-more)

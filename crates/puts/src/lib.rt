@@ -4,6 +4,9 @@ ghost use mathlib.Core.Path.{_≡_};
 ghost use mathlib.Core.List.{[], _∷_, _++_};
 ghost use Prim.Native.Nat.{_+_, _%_};
 ghost use lib.Dec.{ltb};
+ghost use lib.ListN.{length};
+ghost use mir.Syntax.{w32};
+ghost use mir.Val.{ofZ};
 ghost use Rattle.numbers.specs.Varint.{fewest};
 ghost use Rattle.numbers.specs.Answers.{wroteAt, putAt};
 ghost use Rattle.puts.specs.Bytes.{shortDelta, fieldBytes, itemsBytes, pairsBytes, stringBytes, messageBytes};
@@ -143,6 +146,45 @@ fn envelope(buf: &mut [u8], at: usize, second: u8, bits: u32, name: &[u8]) -> Wr
     numbers::write_byte(buf, at, COMPACT_PROTOCOL_ID);
     byte_varint(buf, at + 1, second, bits);
     binary(buf, at + head, name)
+}
+
+// How many bytes a field's header takes.
+pub fn field_len(last: FieldId, id: FieldId, code: u8) -> usize
+    ensures { λ r. ⌜ r ≡ length (fieldBytes (last .0) (id .0) (code % 16)) ⌝ }
+{
+    let delta = short_delta(last, id);
+    if delta == 0 {
+        return 1 + numbers::varint_len(zigzag::i32_to_zigzag(id.0 as i32) as u64);
+    }
+    1
+}
+
+// How many bytes a list's or a set's header takes.
+pub fn items_len(kind: TType, n: u32) -> usize
+    ensures { λ r. ⌜ r ≡ length (itemsBytes kind n) ⌝ }
+{
+    if n < 15 {
+        return 1;
+    }
+    1 + numbers::varint_len(n as u64)
+}
+
+// How many bytes a map's header takes.
+pub fn pairs_len(key: TType, value: TType, n: u32) -> usize
+    ensures { λ r. ⌜ r ≡ length (pairsBytes key value n) ⌝ }
+{
+    if n == 0 {
+        return 1;
+    }
+    numbers::varint_len(n as u64) + 1
+}
+
+// How many bytes stand before a message's name.
+pub fn message_head(sequence: SeqNo, name: &[u8]) -> usize
+    ensures { λ r. ⌜ r ≡ 2 + length (fewest (ofZ w32 (sequence .0))) + length (fewest (length (now (name .entry)))) ⌝ }
+{
+    let bits = zigzag::bits32(sequence.0);
+    2 + numbers::varint_len(bits as u64) + numbers::varint_len(name.len() as u64)
 }
 
 // A message's header: the second byte holds its type and the version.

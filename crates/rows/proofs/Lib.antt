@@ -1,3 +1,4 @@
 pub mod Cases
 pub mod Gate
 pub mod Ids
+pub mod Sizes

@@ -1,5 +1,6 @@
--- The row of five numbers that holds a state: 0 the place; 1 the last id, as its 16 bits, and 65,536 times what waits; 2 the depth; 3 the limit on
--- depth; 4 the limit on strings, in the low 32 bits, and 2^32 times the one on containers. Assumes nothing: these are definitions.
+-- The row of six numbers that holds a state: 0 the place; 1 the last id, as its 16 bits, and 65,536 times what waits; 2 the depth; 3 the limit on
+-- depth, in the low 32 bits, and 2^32 times the ceiling; 4 the limit on strings, so too, and 2^32 times the one on containers; 5 the place where the message
+-- began. Assumes nothing: these are definitions.
 use Prim.Native.Nat.{ℕ, _+_, _-_, _*_, _/_, _%_}
 use mathlib.Core.Bool.{Bool, true, false, cond, _&&_}
 use mathlib.Core.List.{List}
@@ -33,15 +34,21 @@ abbrev pub turnOf : ℤ → ℕ → ℕ
 turnOf last waits = ofZ w16 last + waits * 65536
 
 abbrev pub limitsOf : List ℕ → TConfiguration
-limitsOf row = record { depth = getD row 3 0; string = getD row 4 0 % 4294967296; container = getD row 4 0 / 4294967296 }
+limitsOf row =
+    record {
+      depth = getD row 3 0 % 4294967296;
+      string = getD row 4 0 % 4294967296;
+      container = getD row 4 0 / 4294967296;
+      message = getD row 3 0 / 4294967296;
+    }
 
 -- a row of another length, or one in which something waits that cannot, holds no state: every call refuses the limits given in its place, 15
 abbrev pub noLimits : TConfiguration
-noLimits = record { depth = 65; string = 0; container = 0 }
+noLimits = record { depth = 65; string = 0; container = 0; message = 0 }
 
 -- number 1 is below `top`
 abbrev pub holds : ℕ → List ℕ → Bool
-holds top row = eqb (length row) 5 && ltb (getD row 1 0) top
+holds top row = eqb (length row) 6 && ltb (getD row 1 0) top
 
 -- what the reader awaits: 0 nothing, 1 true, 2 false, which are the codes of a bool in a field
 unfoldable pub awaitedOf : ℕ → Awaited
@@ -64,6 +71,7 @@ readerIn row =
       ids = replicate 64 (pos 0);
       pending = I.awaiting (awaitedOf (waitsIn (getD row 1 0)));
       limits = limitsOf row;
+      begin = place (getD row 5 0);
     }
 
 unfoldable pub readerOf : List ℕ → I.State
@@ -89,6 +97,7 @@ writerIn row =
       ids = replicate 64 (pos 0);
       pending = O.pendingOf (fieldOf (waitsIn (getD row 1 0)));
       limits = limitsOf row;
+      begin = place (getD row 5 0);
     }
 
 unfoldable pub writerOf : List ℕ → O.State
@@ -97,22 +106,23 @@ writerOf row = cond (holds writerTop row) (writerIn row) (O.begun noLimits)
 -- "Order: 15; 12": what a call but the bool call refuses first, by the row's numbers alone
 unfoldable pub gateOf : ℕ → ℕ → List ℕ → ℕ
 gateOf top len row =
-    cond (eqb (length row) 5 && inRange (limitsOf row) && leb (getD row 0 0) len && leb (getD row 2 0) (getD row 3 0))
+    cond (eqb (length row) 6 && inRange (limitsOf row) && leb (getD row 0 0) len && leb (getD row 2 0) (limitsOf row .depth) && leb (getD row 5 0) (getD row 0 0) && leb (getD row 0 0) (getD row 5 0 + limitsOf row .message))
     (cond (ltb (getD row 1 0) 65536) 0 (cond (ltb (getD row 1 0) top) OUT-OF-TURN BAD-STATE))
     BAD-STATE
 
--- the row with another place, last id, depth and what waits; limits never change
-unfoldable pub refilled : List ℕ → ℕ → ℤ → ℕ → ℕ → List ℕ
-refilled row at last depth waits = cond (eqb (length row) 5) (set (set (set row 0 at) 1 (turnOf last waits)) 2 depth) row
+-- the row with another place, last id, depth, what waits and place where the message began; limits never change
+unfoldable pub refilled : List ℕ → ℕ → ℤ → ℕ → ℕ → ℕ → List ℕ
+refilled row at last depth waits begin = cond (eqb (length row) 6) (set (set (set (set row 0 at) 1 (turnOf last waits)) 2 depth) 5 begin) row
 
 -- the row behind a call that answered this number, 0 for no refusal: "A refusal returns its number and the state as given"
 unfoldable pub readerAfter : List ℕ → ℕ → I.State → List ℕ
-readerAfter row why st = cond (eqb why 0) (refilled row (st .place .0) (st .last .0) (st .depth) (awaitedNo (st .pending .0))) row
+readerAfter row why st = cond (eqb why 0) (refilled row (st .place .0) (st .last .0) (st .depth) (awaitedNo (st .pending .0)) (st .begin .0)) row
 
 unfoldable pub writerAfter : List ℕ → ℕ → O.State → List ℕ
-writerAfter row why st = cond (eqb why 0) (refilled row (st .place .0) (st .last .0) (st .depth) (fieldNo (st .pending .0))) row
+writerAfter row why st = cond (eqb why 0) (refilled row (st .place .0) (st .last .0) (st .depth) (fieldNo (st .pending .0)) (st .begin .0)) row
 
--- bytes written: the number, and the row at the place behind them; `headed`: and with this last id, and nothing that waits
+-- bytes written: the number, and the row at the place behind them; `headed`: and with this last id, and nothing that waits; `begun`: and with the place where
+-- the message began
 abbrev pub wroteNumber : Wrote → ℕ
 wroteNumber (P.To p) = 0
 wroteNumber (P.Refused why) = why
@@ -124,3 +134,7 @@ wroteRow row (P.Refused why) = row
 abbrev pub headedRow : List ℕ → ℤ → Wrote → List ℕ
 headedRow row id (P.To p) = set (set row 0 p) 1 (ofZ w16 id)
 headedRow row id (P.Refused why) = row
+
+abbrev pub begunRow : List ℕ → ℕ → Wrote → List ℕ
+begunRow row at (P.To p) = set (set row 0 p) 5 at
+begunRow row at (P.Refused why) = row

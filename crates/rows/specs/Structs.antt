@@ -56,7 +56,7 @@ restoredRead ids next N.Done = I.withLast next (idOf (getD ids (next .depth) (po
 restoredRead ids next (N.Refused why) = next
 
 abbrev pub lastWrite : O.State → ℤ → O.State
-lastWrite st z = record { place = st .place; last = idOf z; depth = st .depth; ids = st .ids; pending = st .pending; limits = st .limits }
+lastWrite st z = record { place = st .place; last = idOf z; depth = st .depth; ids = st .ids; pending = st .pending; limits = st .limits; begin = st .begin }
 
 abbrev pub restoredWrite : List ℤ → O.State → WriteAnswer → O.State
 restoredWrite ids next WA.Written = lastWrite next (getD ids (next .depth) (pos 0))

@@ -1,12 +1,15 @@
-// A state in a lent row of five numbers: what a call asks of it and leaves in it, and the whole state where a call needs one.
+// A state in a lent row of six numbers: what a call asks of it and leaves in it, and the whole state where a call needs one.
 ghost use mathlib.Core.Path.{_≡_};
-ghost use Prim.Native.Nat.{_<_};
+ghost use mathlib.Core.Bool.{cond};
+ghost use Prim.Native.Nat.{_+_, _-_, _<_, min};
 ghost use lib.ListN.{getD, set};
+ghost use lib.Dec.{leb, ltb};
 ghost use mir.Syntax.{w16};
 ghost use mir.Val.{ofZ};
+ghost use Rattle.types.specs.Refusals.{OUT-OF-TURN, BAD-STATE};
 ghost use Rattle.input.specs.State as I;
 ghost use Rattle.output.specs.State as O;
-ghost use Rattle.rows.specs.Row.{lastIn, turnOf, limitsOf, noLimits, awaitedOf, awaitedNo, readerOf, writerOf, gateOf, refilled, readerAfter, wroteNumber, wroteRow, headedRow};
+ghost use Rattle.rows.specs.Row.{lastIn, turnOf, limitsOf, noLimits, awaitedOf, awaitedNo, readerOf, writerOf, gateOf, readerIn, writerIn, refilled, readerAfter, wroteNumber, wroteRow, headedRow, begunRow};
 use input::Awaited;
 use input::Pending;
 use input::TCompactInputProtocol;
@@ -15,7 +18,7 @@ use types::FieldId;
 use types::Place;
 use types::TConfiguration;
 
-const NUMBERS: usize = 5;
+const NUMBERS: usize = 6;
 
 // What waits stands above the last id's 16 bits: a reader's is below 3, a writer's below 65,537.
 const READER_TOP: u64 = 196608;
@@ -67,13 +70,106 @@ pub fn last(row: &[u64]) -> i16
 pub fn limits(row: &[u64]) -> TConfiguration
     ensures { λ r. ⌜ r ≡ limitsOf (now (row .entry)) ⌝ }
 {
-    let depth = number(row, 3) as usize;
+    let tops = number(row, 3);
     let sizes = number(row, 4);
     TConfiguration {
-        depth,
+        depth: (tops % 4294967296) as usize,
         string: (sizes % 4294967296) as u32,
         container: (sizes / 4294967296) as u32,
+        message: (tops / 4294967296) as u32,
     }
+}
+
+// The limit on depth, and the ceiling.
+pub fn deepest(row: &[u64]) -> u64
+    ensures { λ r. ⌜ r ≡ limitsOf (now (row .entry)) .depth ⌝ }
+{
+    number(row, 3) % 4294967296
+}
+
+pub fn ceiling(row: &[u64]) -> usize
+    ensures { λ r. ⌜ r ≡ limitsOf (now (row .entry)) .message ⌝ }
+{
+    (number(row, 3) / 4294967296) as usize
+}
+
+// Where the message began.
+pub fn begin(row: &[u64]) -> usize
+    ensures { λ r. ⌜ r ≡ getD (now (row .entry)) 5 0 ⌝ }
+{
+    number(row, 5) as usize
+}
+
+// How many bytes the ceiling leaves the message.
+pub fn left(row: &[u64]) -> usize
+    ensures { λ r. ⌜ r ≡ O.leftOf (writerIn (now (row .entry))) ⌝ }
+{
+    let most = ceiling(row);
+    let at = place(row);
+    let begin = begin(row);
+    if at < begin {
+        return most;
+    }
+    let used = at - begin;
+    if most < used {
+        return 0;
+    }
+    most - used
+}
+
+// How many bytes there are from a place on.
+fn ahead(len: usize, at: usize) -> usize
+    ensures { λ r. ⌜ r ≡ len - at ⌝ }
+{
+    if len < at {
+        return 0;
+    }
+    len - at
+}
+
+fn least(a: usize, b: usize) -> usize
+    ensures { λ r. ⌜ r ≡ min a b ⌝ }
+{
+    if a < b {
+        return a;
+    }
+    b
+}
+
+// Where reading ends, of a row that passes: at the input's end, or before it where the message must have ended. It is put together from
+// the place on, since so the compiler sees that it lies behind it.
+pub fn cut(row: &[u64], len: usize) -> usize
+    ensures { λ r. ⌜ r ≡ getD (now (row .entry)) 0 0 + min (O.leftOf (writerIn (now (row .entry)))) (len - getD (now (row .entry)) 0 0) ⌝ }
+{
+    let at = place(row);
+    at + least(left(row), ahead(len, at))
+}
+
+// The same of a message that begins here.
+pub fn cut_here(row: &[u64], len: usize) -> usize
+    ensures { λ r. ⌜ r ≡ min (I.cutOf (I.begunHere (readerIn (now (row .entry))))) len ⌝ }
+{
+    input::cut_at(place(row), ceiling(row), len)
+}
+
+// The last two tests of a row: of the bytes that its message has, and of what waits. Nothing waits is asked first, so that the compiler
+// makes jumps of the row's tests and not one long sum of truths.
+fn waits(used: u64, message: u64, turn: u64, top: u64) -> u8
+    ensures { λ r. ⌜ r ≡ cond (leb used message) (cond (ltb turn 65536) 0 (cond (ltb turn top) OUT-OF-TURN BAD-STATE)) BAD-STATE ⌝ }
+{
+    if turn < 65536 {
+        if message < used {
+            return types::BAD_STATE;
+        }
+        return 0;
+    }
+    if message < used {
+        return types::BAD_STATE;
+    }
+    if turn < top {
+        return types::OUT_OF_TURN;
+    }
+    types::BAD_STATE
 }
 
 // What a call refuses before it looks at anything else: BAD STATE, then OUT OF TURN; 0 where neither is. `top` is above what number 1 may be.
@@ -84,8 +180,11 @@ fn refusal(row: &[u64], len: usize, top: u64) -> u8
         let at = row[0];
         let turn = row[1];
         let depth = row[2];
-        let most = row[3];
+        let tops = row[3];
         let sizes = row[4];
+        let begin = row[5];
+        let most = tops % 4294967296;
+        let message = tops / 4294967296;
         if 64 < most {
             return types::BAD_STATE;
         }
@@ -95,18 +194,19 @@ fn refusal(row: &[u64], len: usize, top: u64) -> u8
         if 2147483647 < sizes / 4294967296 {
             return types::BAD_STATE;
         }
+        if 2147483647 < message {
+            return types::BAD_STATE;
+        }
         if (len as u64) < at {
             return types::BAD_STATE;
         }
         if most < depth {
             return types::BAD_STATE;
         }
-        if turn < 65536 {
-            return 0;
+        if at < begin {
+            return types::BAD_STATE;
         }
-        if turn < top {
-            return types::OUT_OF_TURN;
-        }
+        return waits(at - begin, message, turn, top);
     }
     types::BAD_STATE
 }
@@ -131,6 +231,15 @@ pub fn head(row: &mut [u64], at: usize, id: i16, waits: u8)
     put(row, 1, id_no(id) + (waits as u64) * 65536);
 }
 
+// Behind a message's header, which began at `from`: the last id is 0.
+pub fn begun(row: &mut [u64], from: usize, at: usize)
+    ensures { λ _. ⌜ now (row .exit) ≡ set (set (set (now (row .entry)) 0 at) 1 0) 5 from ⌝ }
+{
+    put(row, 0, at as u64);
+    put(row, 1, 0);
+    put(row, 5, from as u64);
+}
+
 // What was written, told: the row moves behind it, or stays where it was refused.
 pub fn wrote(row: &mut [u64], wrote: Wrote) -> u8
     ensures { λ r. ⌜ (r ≡ wroteNumber wrote) × (now (row .exit) ≡ wroteRow (now (row .entry)) wrote) ⌝ }
@@ -152,6 +261,20 @@ pub fn headed(row: &mut [u64], id: i16, wrote: Wrote) -> u8
         Wrote::To(p) => {
             put(row, 0, p as u64);
             put(row, 1, id_no(id));
+            0
+        }
+        Wrote::Refused(why) => why,
+    }
+}
+
+// The same of a message's header, which began at `from`.
+pub fn wrote_anew(row: &mut [u64], from: usize, wrote: Wrote) -> u8
+    ensures { λ r. ⌜ (r ≡ wroteNumber wrote) × (now (row .exit) ≡ begunRow (now (row .entry)) from wrote) ⌝ }
+{
+    match wrote {
+        Wrote::To(p) => {
+            put(row, 0, p as u64);
+            put(row, 5, from as u64);
             0
         }
         Wrote::Refused(why) => why,
@@ -183,6 +306,7 @@ fn no_limits() -> TConfiguration
         depth: 65,
         string: 0,
         container: 0,
+        message: 0,
     }
 }
 
@@ -198,6 +322,7 @@ pub fn reader_of(row: &[u64]) -> TCompactInputProtocol
     }
     let at = row[0] as usize;
     let depth = row[2] as usize;
+    let begin = row[5] as usize;
     TCompactInputProtocol {
         place: Place(at),
         last: FieldId(id_of(turn)),
@@ -205,17 +330,19 @@ pub fn reader_of(row: &[u64]) -> TCompactInputProtocol
         ids: [0; 64],
         pending: Pending(awaited_of(turn / 65536)),
         limits: limits(row),
+        begin: Place(begin),
     }
 }
 
-fn refill(row: &mut [u64], at: usize, last: i16, depth: usize, waits: u64)
+fn refill(row: &mut [u64], at: usize, last: i16, depth: usize, waits: u64, begin: usize)
     requires { ⌜ waits < 65537 ⌝ }
-    ensures { λ _. ⌜ now (row .exit) ≡ refilled (now (row .entry)) at last depth waits ⌝ }
+    ensures { λ _. ⌜ now (row .exit) ≡ refilled (now (row .entry)) at last depth waits begin ⌝ }
 {
     if row.len() == NUMBERS {
         row[0] = at as u64;
         row[1] = id_no(last) + waits * 65536;
         row[2] = depth as u64;
+        row[5] = begin as u64;
     }
 }
 
@@ -228,7 +355,8 @@ pub fn keep_reader(row: &mut [u64], why: u8, state: TCompactInputProtocol) -> u8
         let awaited = pending.0;
         let at = state.place.0;
         let last = state.last.0;
-        refill(row, at, last, state.depth, awaited_no(awaited));
+        let begin = state.begin.0;
+        refill(row, at, last, state.depth, awaited_no(awaited), begin);
     }
     why
 }

@@ -3,12 +3,12 @@ use mathlib.Core.Path.{_≡_, refl, sym, ap, _∙_}
 use mathlib.Core.Logic.{_↔_}
 use mathlib.Core.Bool.{Bool, true, false, cond, _&&_}
 use mathlib.Core.List.{List}
-use Prim.Native.Nat.{ℕ, _-_, _≤_}
+use Prim.Native.Nat.{ℕ, _-_, _≤_, min}
 use native.Mathlib.Omega.{arith}
 use borrow.Author.Needs.{sfits-of}
 use borrow.Author.Tests.{eq-eqb, ne-eqb, leb-true}
-use lib.ListN.{length}
-use lib.Dec.{eqb, leb}
+use lib.ListN.{length, take}
+use lib.Dec.{eqb, ltb, leb}
 use mir.Facts.{toZ-ofZ}
 use Rattle.types.specs.Refusals.{OUT-OF-TURN, BAD-STATE}
 use Rattle.types.specs.Codes.{typeCode}
@@ -17,27 +17,30 @@ use Rattle.types.specs.declared.Place.{Place}
 use Rattle.types.specs.declared.TType.{TType}
 use Rattle.heads.specs.Answers.{place}
 use Rattle.heads.specs.Spells.{Formed}
-use Rattle.input.specs.State.{State, sound, waits, movedTo, withPending}
+use Rattle.input.specs.State.{State, sound, cutOf, waits, movedTo, withPending}
 use Rattle.input.specs.Outcome.{Outcome, answers, declines}
 use Rattle.input.specs.Answers.{asDone}
 use Rattle.input.specs.declared.Awaited.{Awaited}
 use Rattle.input.specs.declared.Awaited.the-variants as W
 use Rattle.input.specs.declared.ReadDone.{ReadDone}
 use Rattle.input.specs.declared.DoneAnswer.the-variants as N
-use Rattle.skip.specs.Skip.{skipOf, over, roomOf, awaited, skips, skipCall, skippedTo}
+use Rattle.skip.specs.Skip.{skipOf, skipTo, over, roomOf, awaited, skips, skipCall, skippedTo}
 use Rattle.skip.specs.declared.Skipped.{Skipped}
 use Rattle.skip.specs.declared.Skipped.the-variants.{Done, Refused}
-use Rattle.skip.proofs.Theorems.{skip-exact}
+use Rattle.skip.proofs.Cut.{skip-cut, cut-exact}
+use Rattle.heads.specs.Reader.{missing}
+use Rattle.input.proofs.Gate.{is-sound}
+use Rattle.input.proofs.Cases.{cut-inside, cut-counts}
 
 -- skip_on
-module _ (s : List ℕ) (st : State) (kind : TType) (r : Skipped) (f : r ≡ skipOf s (st .limits) (roomOf st) kind (st .place .0)) where
-  pub on-done : (e : Place) → r ≡ Done e → asDone (answers tt (movedTo st e)) ≡ asDone (over st (skipOf s (st .limits) (roomOf st) kind (st .place .0)))
-  on-done e g = ap (λ (x : Skipped). asDone (over st x)) (sym g ∙ f)
+module _ (s : List ℕ) (st : State) (kind : TType) (end : ℕ) (o : end ≡ min (cutOf st) (length s)) (r : Skipped) (f : r ≡ skipOf (take end s) (st .limits) (roomOf st) kind (st .place .0)) where
+  pub on-done : (e : Place) → r ≡ Done e → asDone (answers tt (movedTo st e)) ≡ asDone (over st (skipTo s (cutOf st) (st .limits) (roomOf st) kind (st .place .0)))
+  on-done e g = ap (λ (x : Skipped). asDone (over st x)) (skip-cut s (cutOf st) (st .limits) (roomOf st) kind (st .place .0) end o r (Done e) f g)
 
-  pub on-refused : (why : ℕ) → r ≡ Refused why → asDone (declines why st) ≡ asDone (over st (skipOf s (st .limits) (roomOf st) kind (st .place .0)))
-  on-refused why g = ap (λ (x : Skipped). asDone (over st x)) (sym g ∙ f)
+  pub on-refused : (why n : ℕ) → r ≡ Refused why → n ≡ missing (ltb end (length s)) why → asDone (declines n st) ≡ asDone (over st (skipTo s (cutOf st) (st .limits) (roomOf st) kind (st .place .0)))
+  on-refused why n g k = ap (λ (i : ℕ). asDone (declines i st)) k ∙ ap (λ (x : Skipped). asDone (over st x)) (skip-cut s (cutOf st) (st .limits) (roomOf st) kind (st .place .0) end o r (Refused why) f g)
 
-pub ruleset on-cases = (on-done, on-refused, toZ-ofZ, sfits-of)
+pub ruleset on-cases = (on-done, on-refused, cut-inside, cut-counts, toZ-ofZ, sfits-of)
 
 -- skip_waiting
 module _ (st : State) (kind : TType) (r : ℕ) (f : r ≡ typeCode kind) where
@@ -60,21 +63,15 @@ module _ (s : List ℕ) (st : State) (kind : TType) (b : Bool) (f : b ≡ sound 
     unfolding skipCall skips
     by-waiting = rw (← f, g, e)
 
-pub call-on : (s : List ℕ) (st : State) (kind : TType) (b : Bool) (r : ReadDone) → b ≡ sound (length s) st → b ≡ true → st .pending .0 ≡ W.Nothing → r ≡ asDone (over st (skipOf s (st .limits) (roomOf st) kind (st .place .0))) → r ≡ skipCall s st kind
+pub call-on : (s : List ℕ) (st : State) (kind : TType) (b : Bool) (r : ReadDone) → b ≡ sound (length s) st → b ≡ true → st .pending .0 ≡ W.Nothing → r ≡ asDone (over st (skipTo s (cutOf st) (st .limits) (roomOf st) kind (st .place .0))) → r ≡ skipCall s st kind
 call-on s st kind b r f g e q = q ∙ by-waiting s st kind b f g W.Nothing e
 
 pub call-waiting : (s : List ℕ) (st : State) (kind : TType) (b : Bool) (v : Bool) (r : ReadDone) → b ≡ sound (length s) st → b ≡ true → st .pending .0 ≡ W.Truth v → r ≡ asDone (cond (eqb (typeCode kind) 1) (answers tt (withPending st W.Nothing)) (declines OUT-OF-TURN st)) → r ≡ skipCall s st kind
 call-waiting s st kind b v r f g e q = q ∙ by-waiting s st kind b f g (W.Truth v) e
 
 -- a sound state's depth is within its limit
-deep : (a b c : Bool) → (a && b && c) ≡ true → c ≡ true
-deep true true c e = e
-deep true false c e = let z : _≡_ {A = ℕ} 0 1 = cc in absurd (omega arith)
-deep false b c e = let z : _≡_ {A = ℕ} 0 1 = cc in absurd (omega arith)
-
 pub within-depth : (len : ℕ) (st : State) (b : Bool) → b ≡ sound len st → b ≡ true → st .depth ≤ st .limits .depth
-unfolding sound
-within-depth len st b f g = leb-true _ _ (deep (inRange (st .limits)) (leb (st .place .0) len) (leb (st .depth) (st .limits .depth)) (sym f ∙ g))
+within-depth len st b f g = is-sound len st (sym f ∙ g) .deep
 
 pub ruleset call-cases = (call-bad, call-on, call-waiting, within-depth, toZ-ofZ, sfits-of)
 
@@ -88,8 +85,9 @@ nothing-waits W.Nothing e = refl
 nothing-waits (W.Truth b) e = let z : _≡_ {A = ℕ} 0 1 = cc in absurd (omega arith)
 
 module _ (s : List ℕ) (st : State) (kind : TType) (r : ReadDone) (f : r ≡ skipCall s st kind) where
-  pub call-exact : sound (length s) st ≡ true → waits (st .pending .0) ≡ false → (e : ℕ) → (r ≡ skippedTo st e) ↔ Formed s (st .limits) (roomOf st) kind (st .place .0) e
+  pub call-exact : sound (length s) st ≡ true → waits (st .pending .0) ≡ false → (e : ℕ) → (r ≡ skippedTo st e) ↔ (Formed s (st .limits) (roomOf st) kind (st .place .0) e × (e ≤ cutOf st))
   call-exact o w e =
-      let c : asDone (over st (skipOf s (st .limits) (roomOf st) kind (st .place .0))) ≡ skipCall s st kind = by-waiting s st kind true (sym o) refl W.Nothing (nothing-waits (st .pending .0) w) in
-      let x = skip-exact s (st .limits) (roomOf st) kind (st .place .0) e in
+      let b = is-sound (length s) st o in
+      let c : asDone (over st (skipTo s (cutOf st) (st .limits) (roomOf st) kind (st .place .0))) ≡ skipCall s st kind = by-waiting s st kind true (sym o) refl W.Nothing (nothing-waits (st .pending .0) w) in
+      let x = cut-exact s (cutOf st) (st .limits) (roomOf st) kind (st .place .0) (b .before) (b .here) e in
       ((λ q. x .0 (to-end st _ e (c ∙ sym f ∙ q))), λ g. f ∙ sym c ∙ ap (λ (y : Skipped). asDone (over st y)) (x .1 g))

@@ -15,4 +15,6 @@ pub mod Room
 pub mod Samples
 pub mod Call
 pub mod Told
+pub mod Cut
 pub mod Laws
+pub mod Ceiling

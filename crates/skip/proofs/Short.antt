@@ -57,7 +57,7 @@ module _ (s : List ℕ) (lim : TConfiguration) (room at : ℕ) (e : Place) where
   scalar-value T.Uuid f = level T.Uuid refl (past-made uuid _ s at ∙ uuid-ends s at ∙ f)
 
 abbrev no-limits : TConfiguration
-no-limits = record { depth = 0; string = 0; container = 0 }
+no-limits = record { depth = 0; string = 0; container = 0; message = 0 }
 
 -- skip_field
 module _ (s : List ℕ) (last : ℤ) (p : ℕ) (i : p < length s) (hl : SFits w16 last) (hd : getD s p 0 / 16 < 16) (d : getD s p 0 / 16 ≡ 0 → ⊥) (t : ltZ (pos 32767) (toZ w32 (ofZ w32 (code-sum last (getD s p 0 / 16)))) ≡ false) (r : FieldType) (e : r ≡ fieldType (getD s p 0 % 16)) where

@@ -16,7 +16,7 @@ use Rattle.numbers.specs.Varint.{Found, got, refused}
 use Rattle.heads.specs.Reader.{Reader, done, andThen, provided}
 use Rattle.heads.specs.Heads.{Field, stop, bool, value, field, itemsHead, pairsHead}
 use Rattle.heads.proofs.Lawful.{not-both}
-use Rattle.input.proofs.Refusals.{Shown, shown, Told, done-told, refuse-told, then-told, provided-told, int8-told, int16-told, int32-told, int64-told, double-told, uuid-told, truth-told, binary-told, itemsHead-told, pairsHead-told, field-told}
+use Rattle.input.proofs.Refusals.{Own, own, Told, done-told, refuse-told, then-told, provided-told, int8-told, int16-told, int32-told, int64-told, double-told, uuid-told, truth-told, binary-told, itemsHead-told, pairsHead-told, field-told}
 use Rattle.skip.specs.Walk.{Entry, withSize, sizing, behind, walk, fields}
 use Rattle.skip.specs.Value.{many, manyPairs, startable, Boxes, shut, roomy, shaped, valueOf}
 
@@ -24,7 +24,7 @@ sizing-told : {A : Type 0} (p : Reader A) → Told p → Told (sizing p)
 unfolding sizing
 sizing-told {A} p h bs why e = go (p bs) refl e
   where
-    go : (x : Found A) → p bs ≡ x → withSize x ≡ refused why → Shown why
+    go : (x : Found A) → p bs ≡ x → withSize x ≡ refused why → Own why
     go (got a n) f g = not-both (sym g)
     go (refused u) f g = h bs why (f ∙ ap refused (cc))
 
@@ -46,7 +46,7 @@ module _ {A : Type 0} (truth : Bool → A) (f : TType → Reader A) (h : (t : TT
 
   walk-told : (k : ℕ) (last : ℤ) → Told (walk truth f k last)
   unfolding walk
-  walk-told zero last = refuse-told END (shown END refl)
+  walk-told zero last = refuse-told END (own END refl refl)
   walk-told (suc k) last = then-told (sizing (field last)) _ (sizing-told (field last) (field-told last)) (λ v. behind-told (walk truth f k) (walk-told k) (v .0) (v .1))
 
   fields-told : (last : ℤ) → Told (fields truth f last)
@@ -63,7 +63,7 @@ module _ (lim : TConfiguration) where
   items-then : (inner : TType → Reader Tree) → ((t : TType) → Told (inner t)) → (g : TType → Trees → Tree) → Told (andThen (itemsHead lim) (λ h. provided (startable (h .0) (h .1)) BAD-TYPE (andThen (many (inner (h .0)) (h .1)) (λ ts. done (g (h .0) ts)))))
   items-then inner l g =
       then-told (itemsHead lim) _ (itemsHead-told lim)
-      (λ h. provided-told (startable (h .0) (h .1)) BAD-TYPE _ (shown BAD-TYPE refl) (then-told (many (inner (h .0)) (h .1)) _ (many-told (inner (h .0)) (l (h .0)) (h .1)) (λ ts. done-told _)))
+      (λ h. provided-told (startable (h .0) (h .1)) BAD-TYPE _ (own BAD-TYPE refl refl) (then-told (many (inner (h .0)) (h .1)) _ (many-told (inner (h .0)) (l (h .0)) (h .1)) (λ ts. done-told _)))
 
   roomy-told : (inner : TType → Reader Tree) → ((t : TType) → Told (inner t)) → BoxesTold (roomy lim inner)
   roomy-told inner l =
@@ -72,16 +72,16 @@ module _ (lim : TConfiguration) where
         set = items-then inner l val.set;
         map =
             then-told (pairsHead lim) _ (pairsHead-told lim)
-            (λ h. provided-told (startable (h .0) (h .2)) BAD-TYPE _ (shown BAD-TYPE refl) (provided-told (startable (h .1) (h .2)) BAD-TYPE _ (shown BAD-TYPE refl)
+            (λ h. provided-told (startable (h .0) (h .2)) BAD-TYPE _ (own BAD-TYPE refl refl) (provided-told (startable (h .1) (h .2)) BAD-TYPE _ (own BAD-TYPE refl refl)
             (then-told (manyPairs (inner (h .0)) (inner (h .1)) (h .2)) _ (manyPairs-told (inner (h .0)) (inner (h .1)) (l (h .0)) (l (h .1)) (h .2)) (λ ps. done-told _))));
         struct = then-told (fields val.truth inner (pos 0)) _ (fields-told val.truth inner l (pos 0)) (λ fs. done-told _);
       }
 
   shut-told : BoxesTold shut
-  shut-told = record { list = refuse-told DEPTH (shown DEPTH refl); set = refuse-told DEPTH (shown DEPTH refl); map = refuse-told DEPTH (shown DEPTH refl); struct = refuse-told DEPTH (shown DEPTH refl) }
+  shut-told = record { list = refuse-told DEPTH (own DEPTH refl refl); set = refuse-told DEPTH (own DEPTH refl refl); map = refuse-told DEPTH (own DEPTH refl refl); struct = refuse-told DEPTH (own DEPTH refl refl) }
 
   shaped-told : (b : Boxes) → BoxesTold b → (t : TType) → Told (shaped lim b t)
-  shaped-told b l T.Stop = refuse-told BAD-TYPE (shown BAD-TYPE refl)
+  shaped-told b l T.Stop = refuse-told BAD-TYPE (own BAD-TYPE refl refl)
   shaped-told b l T.Bool = then-told _ _ truth-told (λ a. done-told _)
   shaped-told b l T.I08 = then-told _ _ int8-told (λ a. done-told _)
   shaped-told b l T.I16 = then-told _ _ int16-told (λ a. done-told _)

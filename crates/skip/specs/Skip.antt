@@ -10,9 +10,9 @@ use Rattle.types.specs.declared.TType.{TType}
 use Rattle.types.specs.declared.TType.the-variants as T
 use Rattle.types.specs.declared.TConfiguration.{TConfiguration}
 use Rattle.numbers.specs.Varint.{Found, got, refused}
-use Rattle.heads.specs.Reader.{Reader, readAt}
+use Rattle.heads.specs.Reader.{Reader, readAt, readTo}
 use Rattle.heads.specs.Answers.{place}
-use Rattle.input.specs.State.{State, sound, movedTo, withPending}
+use Rattle.input.specs.State.{State, sound, cutOf, movedTo, withPending}
 use Rattle.input.specs.Outcome.{Outcome, answers, declines}
 use Rattle.input.specs.Answers.{asDone}
 use Rattle.input.specs.declared.Awaited.{Awaited}
@@ -34,6 +34,10 @@ past p s at = passed (readAt p s at)
 unfoldable pub skipOf : List ℕ → TConfiguration → ℕ → TType → ℕ → Skipped
 skipOf s lim room ty at = past (valueOf lim room ty) s at
 
+-- the same up to a cut: what is missed there, with input behind it, is MESSAGE SIZE
+unfoldable pub skipTo : List ℕ → ℕ → TConfiguration → ℕ → TType → ℕ → Skipped
+skipTo s cut lim room ty at = passed (readTo (valueOf lim room ty) s cut at)
+
 -- the state behind what was passed over; a refusal hands it back as given
 abbrev pub over : State → Skipped → Outcome (Unit {0})
 over st (Done e) = answers tt (movedTo st e)
@@ -45,7 +49,7 @@ roomOf st = st .limits .depth - st .depth
 
 -- "A pending Bool is taken, using no byte; any other skip leaves ids and depth as they were"; any other type is OUT OF TURN then
 abbrev pub awaited : List ℕ → State → TType → Awaited → Outcome (Unit {0})
-awaited s st kind W.Nothing = over st (skipOf s (st .limits) (roomOf st) kind (st .place .0))
+awaited s st kind W.Nothing = over st (skipTo s (cutOf st) (st .limits) (roomOf st) kind (st .place .0))
 awaited s st kind (W.Truth b) = cond (eqb (typeCode kind) 1) (answers tt (withPending st W.Nothing)) (declines OUT-OF-TURN st)
 
 -- skip over the reader's state: BAD STATE first

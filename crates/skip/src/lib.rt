@@ -9,11 +9,11 @@ ghost use lib.Dec.{eqb};
 ghost use Rattle.types.specs.Refusals.{OUT-OF-TURN};
 ghost use Rattle.types.specs.Codes.{typeCode};
 ghost use Rattle.heads.specs.Spells.{Formed};
-ghost use Rattle.input.specs.State.{sound, waits, withPending};
+ghost use Rattle.input.specs.State.{sound, cutOf, waits, withPending};
 ghost use Rattle.input.specs.Outcome.{answers, declines};
 ghost use Rattle.input.specs.Answers.{asDone};
 ghost use Rattle.input.specs.declared.Awaited.the-variants as W;
-ghost use Rattle.skip.specs.Skip.{past, skipOf, over, roomOf, skipCall, skippedTo};
+ghost use Rattle.skip.specs.Skip.{past, skipOf, skipTo, over, roomOf, skipCall, skippedTo};
 ghost use Rattle.skip.specs.Value.{startable, manyPairs, valueOf};
 ghost use Rattle.types.specs.declared.TType.the-variants as T;
 use heads::FieldHead;
@@ -194,17 +194,18 @@ fn skip_struct(s: &[u8], at: Place, room: usize, limits: TConfiguration) -> Skip
 // From the reader's place on, where no bool waits.
 fn skip_on(state: TCompactInputProtocol, s: &[u8], kind: TType) -> ReadDone
     requires { ⌜ state .depth ≤ state .limits .depth ⌝ }
-    ensures { λ r. ⌜ r ≡ asDone (over state (skipOf (now (s .entry)) (state .limits) (roomOf state) kind (state .place .0))) ⌝ }
+    ensures { λ r. ⌜ r ≡ asDone (over state (skipTo (now (s .entry)) (cutOf state) (state .limits) (roomOf state) kind (state .place .0))) ⌝ }
 {
     let room = state.limits.depth - state.depth;
-    match skip_value(s, state.place, kind, room, state.limits) {
+    let end = state.cut(s.len());
+    match skip_value(&s[..end], state.place, kind, room, state.limits) {
         Skipped::Refused(why) => ReadDone {
-            answer: DoneAnswer::Refused(why),
+            answer: DoneAnswer::Refused(input::missing(why, end, s.len())),
             state,
         },
-        Skipped::Done(end) => {
+        Skipped::Done(to) => {
             let mut next = state;
-            next.place = end;
+            next.place = to;
             ReadDone {
                 answer: DoneAnswer::Done,
                 state: next,
@@ -252,7 +253,7 @@ fn skip_call(state: TCompactInputProtocol, s: &[u8], kind: TType) -> ReadDone
 // Over one value of a type. In a sound state with no bool waiting it succeeds exactly on a well-formed value within the limits.
 pub fn skip(state: TCompactInputProtocol, s: &[u8], kind: TType) -> ReadDone
     ensures answer { λ r. ⌜ r ≡ skipCall (now (s .entry)) state kind ⌝ }
-    ensures exact { λ r. ⌜ (sound (length (now (s .entry))) state ≡ true → waits (state .pending .0) ≡ false → (e : ℕ) → (r ≡ skippedTo state e) ↔ Formed (now (s .entry)) (state .limits) (roomOf state) kind (state .place .0) e) ⌝ }
+    ensures exact { λ r. ⌜ (sound (length (now (s .entry))) state ≡ true → waits (state .pending .0) ≡ false → (e : ℕ) → (r ≡ skippedTo state e) ↔ (Formed (now (s .entry)) (state .limits) (roomOf state) kind (state .place .0) e × (e ≤ cutOf state))) ⌝ }
 {
     skip_call(state, s, kind)
 }

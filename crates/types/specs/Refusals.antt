@@ -57,7 +57,7 @@ SCRATCH = 13
 abbrev pub NO-ROOM : ℕ
 NO-ROOM = 14
 
--- a limit out of range, a place past the buffer's end, a depth over its limit
+-- a limit out of range, a place past the buffer's end, a depth over its limit; a message's beginning past the place, a place past its cut
 abbrev pub BAD-STATE : ℕ
 BAD-STATE = 15
 
@@ -68,3 +68,7 @@ BAD-LIST = 16
 -- an i16, as value or field id, whose zigzag number lies outside -32,768 to 32,767
 abbrev pub RANGE : ℕ
 RANGE = 17
+
+-- a byte missed where the message's ceiling ends it, with input behind; a call that would write past the ceiling
+abbrev pub MESSAGE-SIZE : ℕ
+MESSAGE-SIZE = 19

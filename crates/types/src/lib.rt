@@ -38,6 +38,8 @@ pub const BAD_LIST: u8 = 16;
 
 pub const RANGE: u8 = 17;
 
+pub const MESSAGE_SIZE: u8 = 19;
+
 // A field's id, a message's sequence number and a place in the lent bytes: three kinds of number, each a type of its own.
 pub struct FieldId(pub i16);
 
@@ -188,11 +190,12 @@ pub fn message_type_to_u8(kind: TMessageType) -> u8
     }
 }
 
-// The limits: how deep structs and containers may nest, how long a string and how large a container may be.
+// The limits: how deep structs and containers may nest, how long a string, how large a container and how large a message may be.
 pub struct TConfiguration {
     pub depth: usize,
     pub string: u32,
     pub container: u32,
+    pub message: u32,
 }
 
 impl TConfiguration {
@@ -206,6 +209,8 @@ impl TConfiguration {
     // The Rust has no limit here; the largest count that the protocol can say stands in.
     pub const DEFAULT_CONTAINER_LIMIT: u32 = 2_147_483_647;
 
+    pub const DEFAULT_MESSAGE_LIMIT: u32 = 104_857_600;
+
     pub fn default() -> Self
         ensures { λ r. ⌜ r ≡ defaults ⌝ }
     {
@@ -213,6 +218,7 @@ impl TConfiguration {
             depth: TConfiguration::DEFAULT_RECURSION_LIMIT,
             string: TConfiguration::DEFAULT_STRING_LIMIT,
             container: TConfiguration::DEFAULT_CONTAINER_LIMIT,
+            message: TConfiguration::DEFAULT_MESSAGE_LIMIT,
         }
     }
 
@@ -227,6 +233,9 @@ impl TConfiguration {
             return false;
         }
         if TConfiguration::MAX_SIZE < self.container {
+            return false;
+        }
+        if TConfiguration::MAX_SIZE < self.message {
             return false;
         }
         true

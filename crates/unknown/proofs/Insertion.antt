@@ -18,7 +18,7 @@ use Rattle.types.proofs.Limits.{Ranged}
 use Rattle.numbers.specs.Varint.{got}
 use Rattle.heads.specs.Reader.{readAt}
 use Rattle.heads.specs.Answers.{place}
-use Rattle.input.specs.State.{State, sound, waits, movedTo}
+use Rattle.input.specs.State.{State, cutOf, sound, waits, movedTo}
 use Rattle.input.specs.Outcome.{Outcome, answers}
 use Rattle.input.specs.Answers.{asDone}
 use Rattle.input.specs.declared.ReadDone.{ReadDone}
@@ -29,6 +29,7 @@ use Rattle.wanted.proofs.Cases.{is-same, same-self}
 use Rattle.picker.specs.Pick.{Row, Own, ownFrom, answer, rowsOf, forgets, pickCall, written, pickedRows}
 use Rattle.picker.proofs.Went.{Went, went-is}
 use Rattle.output.specs.State as writer
+use Rattle.output.proofs.Checks.{Sound}
 use Rattle.numbers.proofs.Put.{length-put}
 use Rattle.laws.specs.Text.{Plan, Texts}
 use Rattle.laws.specs.Written.{bytesOf, bytesOfFields}
@@ -69,7 +70,8 @@ same-told ids id k m (val.field i t gs) fs h =
     ∙ same-told ids id k m gs fs (put .1))
     h
 
--- The reader stands at a struct that was written: "in as many structs, under the same limits, with no bool pending".
+-- The reader stands at a struct that was written: "in as many structs, under the same limits, with no bool pending"; its bytes end no later than the
+-- reader's cut.
 pub record Stands (lim : TConfiguration) (depth : ℕ) (t : Tree) (s : List ℕ) (st : State) : Type 0 where
   pub lims : st .limits ≡ lim
   pub deep : st .depth ≡ depth
@@ -77,6 +79,7 @@ pub record Stands (lim : TConfiguration) (depth : ℕ) (t : Tree) (s : List ℕ)
   pub free : waits (st .pending .0) ≡ false
   pub rest : List ℕ
   pub here : drop (st .place .0) s ≡ bytesOf t ++ rest
+  pub before : st .place .0 + length (bytesOf t) ≤ cutOf st
 
 -- what a picker that is lent room answers there: it ends just behind the struct, and each row has the kind and the value's bytes that the struct's fields say
 pub record Picked (ids : List ℤ) (kinds : List ℕ) (fs : Fields) (s : List ℕ) (st : State) (rows : List ℕ) : Type 0 where
@@ -93,7 +96,7 @@ module _ (lim : TConfiguration) (ok : Ranged lim) (depth : ℕ) (ids : List ℤ)
       let n = w .nested in
       let at = st .place .0 in
       let reads = entries-read (st .limits) (subst Ranged (sym (p .lims)) ok) s fs (roomOf st - 1) (pos 0) at (p .rest) (omega (arith, p .deep)) (subst (λ (x : TConfiguration). SizedFields x fs) (sym (p .lims)) (w .sized)) (w .typed) (p .here) in
-      let went : Went ids kinds (length rows) st s (entriesOf (pos 0) fs) (at + length (bytesOfFields (pos 0) fs)) = record { sounds = p .sounds; free = p .free; fine = l; deep = omega (arith, p .deep); fits = h; reads = reads } in
+      let went : Went ids kinds (length rows) st s (entriesOf (pos 0) fs) (at + length (bytesOfFields (pos 0) fs)) = record { sounds = p .sounds; free = p .free; fine = l; deep = omega (arith, p .deep); fits = h; reads = reads; before = p .before } in
       let is = went-is ids kinds (length rows) st s (entriesOf (pos 0) fs) (at + length (bytesOfFields (pos 0) fs)) went in
       record {
         own = ownFrom at (entriesOf (pos 0) fs);
@@ -128,9 +131,9 @@ insertion lim ok depth ids kinds l fs gs w v ins s₁ st₁ p s₂ st₂ q rows�
 
 -- Where the writer's calls wrote a value, a reader stands at it: in any input that agrees with the writer's buffer up to the writer's place, where the
 -- writer stood before.
-pub written-stands : (lim : TConfiguration) (depth : ℕ) (steps : List Step) (t : Tree) (buf : List ℕ) (ws : writer.State) (w : Through steps (bytesOf t) buf ws) (s : List ℕ) → take (w .next .place .0) s ≡ take (w .next .place .0) (w .after) → (st : State) → st .limits ≡ lim → st .depth ≡ depth → sound (length s) st ≡ true → waits (st .pending .0) ≡ false → st .place .0 ≡ ws .place .0 → Stands lim depth t s st
-written-stands lim depth steps t buf ws w s agree st a b c d e =
-    let at : ws .place .0 + length (bytesOf t) ≡ w .next .place .0 = sym (w .kept .there) in
+pub written-stands : (lim : TConfiguration) (depth : ℕ) (steps : List Step) (t : Tree) (buf : List ℕ) (ws : writer.State) (w : Through steps (bytesOf t) buf ws) (s : List ℕ) → take (w .next .place .0) s ≡ take (w .next .place .0) (w .after) → (st : State) → st .limits ≡ lim → st .depth ≡ depth → sound (length s) st ≡ true → waits (st .pending .0) ≡ false → st .place .0 ≡ ws .place .0 → w .next .place .0 ≤ cutOf st → Stands lim depth t s st
+written-stands lim depth steps t buf ws w s agree st a b c d e h =
+    let at : ws .place .0 + length (bytesOf t) ≡ w .next .place .0 = sym (w .there) in
     let fits : w .next .place .0 ≤ length buf = omega (arith, w .fits, ap length (w .puts), length-put buf (ws .place .0) (bytesOf t)) in
     record {
       lims = a;
@@ -139,9 +142,10 @@ written-stands lim depth steps t buf ws w s agree st a b c d e =
       free = d;
       rest = drop (length (bytesOf t)) (drop (ws .place .0) s);
       here = ap (λ (n : ℕ). drop n s) e ∙ same-there buf s (bytesOf t) (ws .place .0) (w .next .place .0) at fits (agree ∙ ap (take (w .next .place .0)) (w .puts));
+      before = omega arith;
     }
 
--- One side of the demand: a struct written by the calls, and a reader that stands at it.
+-- One side of the demand: a struct written by the calls, and a reader that stands at it. On both its bytes end no later than the state's own cut.
 pub record Side (lim : TConfiguration) (depth : ℕ) (fs : Fields) : Type 0 where
   pub within : Within lim depth (val.struct fs)
   pub plan : Plan
@@ -149,7 +153,9 @@ pub record Side (lim : TConfiguration) (depth : ℕ) (fs : Fields) : Type 0 wher
   pub buf : List ℕ
   pub before : writer.State
   pub ready : writing.Ready lim depth before
+  pub writer-sound : Sound (length buf) before
   pub room : before .place .0 + length (bytesOf (val.struct fs)) ≤ length buf
+  pub ceiling : before .place .0 + length (bytesOf (val.struct fs)) ≤ writer.cutOf before
   pub s : List ℕ
   pub st : State
   pub lims : st .limits ≡ lim
@@ -157,10 +163,11 @@ pub record Side (lim : TConfiguration) (depth : ℕ) (fs : Fields) : Type 0 wher
   pub sounds : sound (length s) st ≡ true
   pub free : waits (st .pending .0) ≡ false
   pub there : st .place .0 ≡ before .place .0
+  pub cut : st .place .0 + length (bytesOf (val.struct fs)) ≤ cutOf st
 
 -- what the writer's calls left
 pub left-by : (lim : TConfiguration) → Ranged lim → (depth : ℕ) (fs : Fields) (x : Side lim depth fs) → There lim depth (x .plan) (val.struct fs) (x .buf) (x .before)
-left-by lim ok depth fs x = round-trip lim ok depth (x .plan) (val.struct fs) (x .within) (x .texts) (x .buf) (x .before) (x .ready) (x .room)
+left-by lim ok depth fs x = round-trip lim ok depth (x .plan) (val.struct fs) (x .within) (x .texts) (x .buf) (x .before) (x .ready) (x .writer-sound) (x .room) (x .ceiling)
 
 -- the reader's input agrees with it up to the writer's place
 abbrev pub Agreed : (lim : TConfiguration) → Ranged lim → (depth : ℕ) (fs : Fields) → Side lim depth fs → Type 0
@@ -174,4 +181,6 @@ unknown-fields lim ok depth ids kinds l fs gs ins x a y b rows₁ rows₂ h₁ h
     insertion lim ok depth ids kinds l fs gs (x .within) (y .within) ins (x .s) (x .st) (stood fs x a) (y .s) (y .st) (stood gs y b) rows₁ rows₂ h₁ h₂
   where
     stood : (hs : Fields) (z : Side lim depth hs) → Agreed lim ok depth hs z → Stands lim depth (val.struct hs) (z .s) (z .st)
-    stood hs z c = written-stands lim depth (writeOf (z .plan) (val.struct hs)) (val.struct hs) (z .buf) (z .before) (left-by lim ok depth hs z .wrote) (z .s) c (z .st) (z .lims) (z .deep) (z .sounds) (z .free) (z .there)
+    stood hs z c =
+        let w = left-by lim ok depth hs z .wrote in
+        written-stands lim depth (writeOf (z .plan) (val.struct hs)) (val.struct hs) (z .buf) (z .before) w (z .s) c (z .st) (z .lims) (z .deep) (z .sounds) (z .free) (z .there) (omega (arith, w .there, z .there, z .cut))

@@ -3,3 +3,4 @@ pub mod Link
 pub mod Answers
 pub mod Insertion
 pub mod Read
+pub mod Samples

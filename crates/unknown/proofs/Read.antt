@@ -90,7 +90,7 @@ as-read ids kinds n st s fs e w long plan x =
     let to : at + (e - at) ≡ e = omega arith in
     let f = was-spelt s (st .limits) (roomOf st) T.Struct at (at + (e - at)) (val.struct (fieldsOf fs)) (went-read ids kinds n st s fs e w ∙ ap (got (val.struct (fieldsOf fs))) (sym to)) in
     record {
-      gave = formed-read s st (w .sounds) (nothing-waits (st .pending .0) (w .free)) long plan T.Struct (e - at) (record { tree = val.struct (fieldsOf fs); start = omega arith; inside = f .inside; spelt = f .spelt }) x;
+      gave = formed-read s st (w .sounds) (nothing-waits (st .pending .0) (w .free)) long plan T.Struct (e - at) (record { tree = val.struct (fieldsOf fs); start = omega arith; inside = f .inside; spelt = f .spelt }) (omega (arith, w .before)) x;
       ends = to;
       tells = λ id k. said (st .limits) (roomOf st - 1) s (lastIn id k (fieldsOf fs)) _ _ (linked (st .limits) (roomOf st - 1) s id k fs at (all-stand (st .limits) (roomOf st - 1) s fs (pos 0) at e (w .reads)));
     }

@@ -3,9 +3,11 @@ ghost use Prim.Native.Nat.{_≤_};
 use crate::say;
 use crate::say::Answer;
 use crate::words;
+use crate::words::BEGAN;
 use crate::words::BEGIN;
 use crate::words::BOOL;
 use crate::words::BYTES;
+use crate::words::CEILING;
 use crate::words::DOUBLE;
 use crate::words::END;
 use crate::words::FIELD;
@@ -32,6 +34,7 @@ use input::MapAnswer;
 use input::MessageAnswer;
 use input::PartAnswer;
 use input::TCompactInputProtocol;
+use types::Place;
 use types::TConfiguration;
 use types::TType;
 use types::TypeRead;
@@ -44,6 +47,7 @@ fn fresh() -> TCompactInputProtocol {
         depth: 64,
         string: 2_147_483_647,
         container: 2_147_483_647,
+        message: 2_147_483_647,
     })
 }
 
@@ -86,14 +90,14 @@ fn calls(st: TCompactInputProtocol, s: &[u8], line: &[u8]) {
     }
 }
 
-// How many words a call has: only skip has an argument.
+// How many words a call has: only skip has an argument, and what is put into the state.
 fn arity(name: u64) -> usize
     ensures { λ r. ⌜ (1 ≤ r) × (r ≤ 2) ⌝ }
 {
-    if name == SKIP {
-        return 2;
+    match name {
+        SKIP | CEILING | BEGAN => 2,
+        _ => 1,
     }
-    1
 }
 
 // One call; word i of the line is its argument.
@@ -115,6 +119,8 @@ fn one(
         UUID => uuid(st, s),
         BOOL => boolean(st, s),
         SKIP => skipped(st, s, line, i),
+        CEILING => ceiling(st, words::number32(line, i)),
+        BEGAN => began(st, words::number(line, i) as usize),
         _ => scalar(st, s, name),
     }
 }
@@ -130,6 +136,24 @@ fn scalar(st: TCompactInputProtocol, s: &[u8], name: u64) -> TCompactInputProtoc
         END => end_of_struct(st, s),
         _ => unknown(st),
     }
+}
+
+// No calls: they put the ceiling, and the place where the message began, into the state.
+fn ceiling(st: TCompactInputProtocol, message: u32) -> TCompactInputProtocol {
+    let mut limits = st.limits;
+    limits.message = message;
+    let mut next = st;
+    next.limits = limits;
+    place(next);
+    next
+}
+
+fn began(st: TCompactInputProtocol, at: usize) -> TCompactInputProtocol {
+    let begin = Place(at);
+    let mut next = st;
+    next.begin = begin;
+    place(next);
+    next
 }
 
 fn unknown(st: TCompactInputProtocol) -> TCompactInputProtocol {

@@ -5,11 +5,15 @@ ghost use lib.ListN.{length};
 use types::TConfiguration;
 
 // Names that several groups of cases have, each as the number that `name` makes of its bytes.
+pub(crate) const BEGAN: u64 = 0x626567616e;
+
 pub(crate) const BEGIN: u64 = 0x626567696e;
 
 pub(crate) const BOOL: u64 = 0x626f6f6c;
 
 pub(crate) const BYTES: u64 = 0x6279746573;
+
+pub(crate) const CEILING: u64 = 0x6365696c696e67;
 
 pub(crate) const DOUBLE: u64 = 0x646f75626c65;
 
@@ -38,10 +42,10 @@ pub(crate) const STRING: u64 = 0x737472696e67;
 pub(crate) const UUID: u64 = 0x75756964;
 
 // Zeros for the whole of standard input, by a function that says no more than how many: a proof that sees the array would compute it.
-pub(crate) fn room() -> [u8; 1048576]
-    ensures { λ r. ⌜ 1048576 ≡ length r ⌝ }
+pub(crate) fn room() -> [u8; 2097152]
+    ensures { λ r. ⌜ 2097152 ≡ length r ⌝ }
 {
-    [0; 1048576]
+    [0; 2097152]
 }
 
 // The part of s from a to e; empty where there is no such part.
@@ -182,12 +186,13 @@ pub(crate) fn number32(line: &[u8], n: usize) -> u32 {
     (number(line, n) % 0x1_0000_0000) as u32
 }
 
-// A row's limits, words 1 to 3: depth, longest string, largest container.
+// A row's limits, words 1 to 3: depth, longest string, largest container. The ceiling is the largest till a row puts another.
 pub(crate) fn limits(line: &[u8]) -> TConfiguration {
     TConfiguration {
         depth: number(line, 1) as usize,
         string: number32(line, 2),
         container: number32(line, 3),
+        message: 2_147_483_647,
     }
 }
 

@@ -5,9 +5,11 @@ ghost use Prim.Native.Nat.{_≤_};
 use crate::say;
 use crate::say::Answer;
 use crate::words;
+use crate::words::BEGAN;
 use crate::words::BEGIN;
 use crate::words::BOOL;
 use crate::words::BYTES;
+use crate::words::CEILING;
 use crate::words::DOUBLE;
 use crate::words::END;
 use crate::words::FIELD;
@@ -156,6 +158,30 @@ fn put(st: TCompactOutputProtocol, name: u64, line: &[u8], i: usize) -> Written 
         }
         DEPTH => {
             next.depth = n;
+            Written {
+                answer: WriteAnswer::Written,
+                state: next,
+            }
+        }
+        _ => put_ceiling(st, name, n),
+    }
+}
+
+fn put_ceiling(st: TCompactOutputProtocol, name: u64, n: usize) -> Written {
+    let mut next = st;
+    match name {
+        CEILING => {
+            let mut limits = st.limits;
+            limits.message = (n % 0x1_0000_0000) as u32;
+            next.limits = limits;
+            Written {
+                answer: WriteAnswer::Written,
+                state: next,
+            }
+        }
+        BEGAN => {
+            let begin = Place(n);
+            next.begin = begin;
             Written {
                 answer: WriteAnswer::Written,
                 state: next,

@@ -37,14 +37,15 @@ pub use refusal::Refusal;
 pub use types::{TConfiguration, TFieldIdentifier, TListIdentifier, TMapIdentifier, TMessageIdentifier, TMessageType, TType};
 pub use writer::TCompactOutputProtocol;
 
-/// How many numbers a state's row has: place, last id with what waits, depth, the limit on depth, the two on sizes.
-pub(crate) const ROW: usize = 5;
+/// How many numbers a state's row has: place, last id with what waits, depth, the limit on depth with the ceiling, the two on sizes, where the message began.
+pub(crate) const ROW: usize = 6;
 /// How many ids of outer structs it can keep.
 pub(crate) const IDS: usize = 64;
 
 /// The row of a new state under these limits.
 pub(crate) fn new_row(limits: TConfiguration) -> [u64; ROW] {
-    [0, 0, 0, limits.depth as u64, (limits.container as u64) << 32 | limits.string as u64]
+    let both = |high: u32, low: u32| (high as u64) << 32 | low as u64;
+    [0, 0, 0, both(limits.message, limits.depth), both(limits.container, limits.string), 0]
 }
 
 /// Ok where the number is 0.

@@ -57,7 +57,7 @@ impl<'a> TCompactInputProtocol<'a> {
         TYPES[number as usize % 16]
     }
 
-    /// A message's header. Field ids start anew from it.
+    /// A message's header. Field ids start anew from it, and the message is counted from its first byte.
     pub fn read_message_begin(&mut self) -> Result<TMessageIdentifier<'a>, Refusal> {
         let (mut kind, mut sequence, mut start, mut end) = (0, 0, 0, 0);
         call!(self, tagrumzil_read_message_begin, &mut kind, &mut sequence, &mut start, &mut end)?;

@@ -1,12 +1,12 @@
 use std::fmt;
 
-/// Why a call was refused: a number of the scope's table, 1 to 17.
+/// Why a call was refused: a number of the scope's table, 1 to 19.
 #[derive(Clone, Copy, PartialEq, Eq, Hash)]
 pub struct Refusal(u8);
 
-const NAMES: [&str; 18] = [
+const NAMES: [&str; 20] = [
     "NONE", "END", "BAD VERSION", "BAD MESSAGE TYPE", "BAD TYPE", "BAD BOOL", "LONG VARINT", "FIELD ID", "SIZE LIMIT", "NEGATIVE SIZE", "DEPTH", "BAD UTF-8",
-    "OUT OF TURN", "SCRATCH", "NO ROOM", "BAD STATE", "BAD LIST", "RANGE",
+    "OUT OF TURN", "SCRATCH", "NO ROOM", "BAD STATE", "BAD LIST", "RANGE", "UNKNOWN", "MESSAGE SIZE",
 ];
 
 impl Refusal {
@@ -36,12 +36,14 @@ impl Refusal {
     pub const OUT_OF_TURN: Refusal = Refusal(12);
     /// The buffer is too short for this call's bytes.
     pub const NO_ROOM: Refusal = Refusal(14);
-    /// A limit out of its range, or a state that is none.
+    /// A limit out of its range, a place out of its message, or a state that is none.
     pub const BAD_STATE: Refusal = Refusal(15);
     /// Wanted ids and types that differ in number, over 64 of them, an id twice, or a type that no field can have.
     pub const BAD_LIST: Refusal = Refusal(16);
     /// An i16, as value or field id, outside -32,768 to 32,767.
     pub const RANGE: Refusal = Refusal(17);
+    /// A byte needed lies past the message's ceiling, with input behind it; or a call's bytes would pass it.
+    pub const MESSAGE_SIZE: Refusal = Refusal(19);
 
     pub(crate) fn from_number(number: u8) -> Refusal {
         Refusal(number)

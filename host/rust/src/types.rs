@@ -69,7 +69,7 @@ impl TMessageType {
     }
 }
 
-/// The limits: depth 0 to 64, strings and containers 0 to 2,147,483,647. A state with any other is refused, BAD STATE.
+/// The limits: depth 0 to 64; strings, containers and messages 0 to 2,147,483,647. A state with any other is refused, BAD STATE.
 #[derive(Clone, Copy, Debug, PartialEq, Eq)]
 pub struct TConfiguration {
     /// How deep structs and containers may nest.
@@ -78,12 +78,14 @@ pub struct TConfiguration {
     pub string: u32,
     /// How many elements a container may have.
     pub container: u32,
+    /// How many bytes a message may have, from its header's first byte on; before any message, from where the state was made.
+    pub message: u32,
 }
 
 impl Default for TConfiguration {
-    /// The defaults of the crate `thrift`: 64, 100 MiB, and the largest count there is.
+    /// The defaults of the crate `thrift`: 64, 100 MiB, the largest count there is, and 100 MiB.
     fn default() -> Self {
-        TConfiguration { depth: 64, string: 104_857_600, container: i32::MAX as u32 }
+        TConfiguration { depth: 64, string: 104_857_600, container: i32::MAX as u32, message: 104_857_600 }
     }
 }
 

@@ -36,7 +36,7 @@ impl<'a> TCompactOutputProtocol<'a> {
         &self.buffer[..self.place()]
     }
 
-    /// A message's header.
+    /// A message's header, from whose first byte the message is counted.
     pub fn write_message_begin(&mut self, identifier: &TMessageIdentifier<'_>) -> Result<(), Refusal> {
         let name = identifier.name;
         call!(self, tagrumzil_write_message_begin, identifier.message_type as u8, identifier.sequence_number, name.as_ptr(), name.len())

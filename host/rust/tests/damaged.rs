@@ -82,7 +82,7 @@ fn what_is_there_is_read() {
     let uuids = [0xFD, 0x80, 0x80, 0x80, 0x80, 0x01];
     assert_eq!(TCompactInputProtocol::new(&uuids).read_list_begin().map(|list| list.size), Err(Refusal::END));
     // Over the limit and below 0 come first.
-    let limits = TConfiguration { depth: 64, string: 100, container: 100 };
+    let limits = TConfiguration { depth: 64, string: 100, container: 100, ..TConfiguration::default() };
     assert_eq!(TCompactInputProtocol::with_config(&frame(&[]), limits).read_list_begin().map(|list| list.size), Err(Refusal::SIZE_LIMIT));
     let below = [0xF7, 0xFF, 0xFF, 0xFF, 0xFF, 0x0F];
     assert_eq!(TCompactInputProtocol::new(&below).read_list_begin().map(|list| list.size), Err(Refusal::NEGATIVE_SIZE));

@@ -125,7 +125,7 @@ fn ids_of_outer_structs() {
 #[test]
 fn a_refusal_leaves_all_as_it_was() {
     let mut buffer = [0xAA; 4];
-    let mut out = TCompactOutputProtocol::with_config(&mut buffer, TConfiguration { depth: 1, string: 3, container: 2 });
+    let mut out = TCompactOutputProtocol::with_config(&mut buffer, TConfiguration { depth: 1, string: 3, container: 2, ..TConfiguration::default() });
     assert_eq!(out.write_double(1.0), Err(Refusal::NO_ROOM));
     assert_eq!(out.write_string("four"), Err(Refusal::SIZE_LIMIT));
     assert_eq!(out.write_list_begin(TType::I32, 3), Err(Refusal::SIZE_LIMIT));
@@ -138,7 +138,7 @@ fn a_refusal_leaves_all_as_it_was() {
     out.write_bytes(b"abc").unwrap();
     assert_eq!(buffer, [3, b'a', b'b', b'c']);
 
-    let limits = TConfiguration { depth: 65, string: 0, container: 0 };
+    let limits = TConfiguration { depth: 65, string: 0, container: 0, message: 0 };
     let refusal = TCompactInputProtocol::with_config(&[0], limits).read_i8().unwrap_err();
     assert_eq!((refusal, refusal.number(), refusal.to_string()), (Refusal::BAD_STATE, 15, "refused 15: BAD STATE".to_string()));
 }
@@ -147,14 +147,14 @@ fn a_refusal_leaves_all_as_it_was() {
 fn limits_of_sizes() {
     // Each has a range of its own, and neither runs into the other.
     for (string, container) in [(1 << 31, 0), (0, 1 << 31), (u32::MAX, u32::MAX)] {
-        let limits = TConfiguration { depth: 64, string, container };
+        let limits = TConfiguration { string, container, ..TConfiguration::default() };
         assert_eq!(TCompactInputProtocol::with_config(&[0], limits).read_i8(), Err(Refusal::BAD_STATE));
         assert_eq!(TCompactOutputProtocol::with_config(&mut [0], limits).write_i8(0), Err(Refusal::BAD_STATE));
     }
-    let limits = TConfiguration { depth: 64, string: i32::MAX as u32, container: 1 };
+    let limits = TConfiguration { string: i32::MAX as u32, container: 1, ..TConfiguration::default() };
     assert_eq!(TCompactInputProtocol::with_config(&[0x25, 0, 0], limits).read_list_begin(), Err(Refusal::SIZE_LIMIT));
     assert_eq!(TCompactInputProtocol::with_config(&[2, 7, 8], limits).read_bytes(), Ok(&[7, 8][..]));
-    let limits = TConfiguration { depth: 64, string: 1, container: i32::MAX as u32 };
+    let limits = TConfiguration { string: 1, container: i32::MAX as u32, ..TConfiguration::default() };
     assert_eq!(TCompactInputProtocol::with_config(&[2, 7, 8], limits).read_bytes(), Err(Refusal::SIZE_LIMIT));
     assert!(TCompactInputProtocol::with_config(&[0x25, 0, 0], limits).read_list_begin().is_ok());
 }

@@ -9,7 +9,10 @@ skip-on-spec =
     (tie.spec
     (λ c. search needs)
     (λ c κs. search needs)
+    (λ c. search on-cases)
+    (λ c κs. search needs)
     (λ c. search needs)
+    (λ c κs. search needs)
     (λ c. search needs)
     (λ c. search on-cases)
     (λ c. search on-cases))

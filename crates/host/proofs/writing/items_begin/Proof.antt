@@ -14,7 +14,6 @@ items-begin-spec =
     (λ c. search needs)
     (λ c. search needs)
     (λ c κs. search needs)
-    (λ c κs. search needs)
     (λ c. search needs)
     (λ c. search items-cases)
     (λ c κs. search needs)

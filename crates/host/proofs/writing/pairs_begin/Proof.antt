@@ -11,7 +11,6 @@ pairs-begin-spec =
     (λ c. search needs)
     (λ c. search needs)
     (λ c κs. search needs)
-    (λ c κs. search needs)
     (λ c. search needs)
     (λ c. search pairs-cases)
     (λ c κs. search needs)

@@ -14,7 +14,6 @@ tagrumzil-write-message-begin-spec =
     (λ c. search needs)
     (λ c. search needs)
     (λ c κs. search needs)
-    (λ c κs. search needs)
     (λ c. search needs)
     (λ c. search message-cases)
     (λ c κs. search needs)

@@ -11,7 +11,6 @@ tagrumzil-write-string-spec =
     (λ c. search needs)
     (λ c. search bytes-cases)
     (λ c κs. search needs)
-    (λ c κs. search needs)
     (λ c. search needs)
     (λ c. search bytes-cases)
     (λ c κs. search needs)

@@ -8,7 +8,10 @@ element-bool-spec =
     tie.close
     (tie.spec
     (λ c κs. search needs)
+    (λ c. search element-cases)
+    (λ c κs. search needs)
     (λ c. search needs)
+    (λ c κs. search needs)
     (λ c. search needs)
     (λ c. search element-cases)
     (λ c. search element-cases))

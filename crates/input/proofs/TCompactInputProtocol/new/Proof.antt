@@ -3,9 +3,12 @@ use Rattle.input.specs.State.{fresh}
 use Rattle.input.proofs.TCompactInputProtocol.new.Statement.{statement}
 use Rattle.input.proofs.TCompactInputProtocol.new.Tie as tie
 
-pub new-spec : {M : Type 1} → statement M
+new-at-requires : tie.Need-new-at-requires
+new-at-requires c κs = search needs
+
+returns : tie.Need-returns
 unfolding fresh
-new-spec =
-    tie.close
-    (tie.spec
-    (λ c. search needs))
+returns c = search needs
+
+pub new-spec : {M : Type 1} → statement M
+new-spec = tie.close (tie.spec new-at-requires returns)

@@ -9,8 +9,12 @@ read-message-begin-spec =
     (tie.spec
     (λ c κs. search needs)
     (λ c. search message-cases)
+    (λ c. search needs)
+    (λ c κs. search needs)
+    (λ c. search message-cases)
     (λ c κs. search needs)
     (λ c. search needs)
+    (λ c κs. search needs)
     (λ c. search needs)
     (λ c. search message-cases)
     (λ c. search message-cases))

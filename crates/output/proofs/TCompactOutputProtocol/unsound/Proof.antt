@@ -11,4 +11,7 @@ unsound-spec =
     (λ c. search unsound-cases)
     (λ c. search unsound-cases)
     (λ c. search unsound-cases)
+    (λ c. search needs)
+    (λ c. search unsound-cases)
+    (λ c. search unsound-cases)
     (λ c. search unsound-cases))

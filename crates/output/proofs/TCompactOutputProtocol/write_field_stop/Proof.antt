@@ -9,6 +9,7 @@ write-field-stop-spec =
     (tie.spec
     (λ c κs. search needs)
     (λ c κs. search needs)
+    (λ c κs. search needs)
     (λ c. search plain-cases)
     (λ c κs. search needs)
     (λ c κs. search needs)

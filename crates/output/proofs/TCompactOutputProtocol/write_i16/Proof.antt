@@ -7,11 +7,14 @@ pub write-i16-spec : {M : Type 1} → statement M
 write-i16-spec =
     tie.close
     (tie.spec
+    (λ c. search int-cases)
+    (λ c κs. search needs)
+    (λ c. search needs)
+    (λ c κs. search needs)
+    (λ c κs. search needs)
     (λ c κs. search needs)
     (λ c κs. search needs)
     (λ c. search int-cases)
-    (λ c. search int-cases)
-    (λ c κs. search needs)
     (λ c κs. search needs)
     (λ c κs. search needs)
     (λ c. search needs)

@@ -9,8 +9,10 @@ write-i64-spec =
     (tie.spec
     (λ c κs. search needs)
     (λ c κs. search needs)
-    (λ c. search int-cases)
     (λ c κs. search needs)
+    (λ c κs. search needs)
+    (λ c κs. search needs)
+    (λ c. search int-cases)
     (λ c κs. search needs)
     (λ c κs. search needs)
     (λ c. search needs)

@@ -9,6 +9,7 @@ write-i8-spec =
     (tie.spec
     (λ c κs. search needs)
     (λ c κs. search needs)
+    (λ c κs. search needs)
     (λ c. search i8-cases)
     (λ c κs. search needs)
     (λ c κs. search needs)

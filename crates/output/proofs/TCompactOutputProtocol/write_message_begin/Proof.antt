@@ -1,5 +1,5 @@
 use borrow.Author.Needs.{needs}
-use Rattle.output.proofs.Cases.{plain-cases}
+use Rattle.output.proofs.Cases.{message-cases}
 use Rattle.output.proofs.TCompactOutputProtocol.write_message_begin.Statement.{statement}
 use Rattle.output.proofs.TCompactOutputProtocol.write_message_begin.Tie as tie
 
@@ -10,8 +10,10 @@ write-message-begin-spec =
     (λ c κs. search needs)
     (λ c κs. search needs)
     (λ c κs. search needs)
-    (λ c. search plain-cases)
+    (λ c κs. search needs)
+    (λ c κs. search needs)
+    (λ c. search message-cases)
     (λ c κs. search needs)
     (λ c κs. search needs)
     (λ c. search needs)
-    (λ c. search plain-cases))
+    (λ c. search message-cases))

@@ -16,6 +16,7 @@ reader-of-spec =
     (λ c. search readers)
     (λ c. search needs)
     (λ c. search needs)
+    (λ c. search needs)
     (λ c κs. search needs)
     (λ c κs. search needs)
     (λ c κs. search needs)

@@ -14,5 +14,6 @@ refill-spec =
     (λ c. search needs)
     (λ c. search needs)
     (λ c. search needs)
+    (λ c. search needs)
     (λ c. search refills)
     (λ c. search refills))

@@ -11,4 +11,5 @@ in-range-spec =
     (λ c. search (le-leb, lt-leb))
     (λ c. search (le-leb, lt-leb))
     (λ c. search (le-leb, lt-leb))
+    (λ c. search (le-leb, lt-leb))
     (λ c. search (le-leb, lt-leb)))
