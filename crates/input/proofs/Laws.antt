@@ -26,7 +26,7 @@ use Rattle.input.specs.Outcome.{Said, says, refuses, Outcome, answers, d
 use Rattle.input.specs.declared.Awaited.{Awaited}
 use Rattle.input.specs.declared.Awaited.the-variants as W
 use Rattle.input.proofs.Gate.{Sound, is-sound, sound-is, Gated, bad, turn, through, gated}
-use Rattle.input.proofs.Refusals.{Shown, shown, shown-missing, Told, truth-told}
+use Rattle.input.proofs.Refusals.{Shown, shown, canGive, plain-given, shown-missing, Told, truth-told}
 
 pub not-true : {X : Type 0} {b : Bool} → b ≡ false → b ≡ true → X
 not-true f g = let z : _≡_ {A = Bool} false true = sym f ∙ g in let o : _≡_ {A = ℕ} 0 1 = cc in absurd (omega arith)
@@ -55,6 +55,8 @@ pub record CallLaws (far : List ℕ → List ℕ → Type 0) {R : Type 0} (call 
   -- "OUT OF TURN": given exactly when the state is sound and the call not its turn
   pub out-of-turn : (s : List ℕ) (st : State) → number (call s st) ≡ OUT-OF-TURN → (sound (length s) st ≡ true) × (late st ≡ true)
   pub turn-out : (s : List ℕ) (st : State) → sound (length s) st ≡ true → late st ≡ true → number (call s st) ≡ OUT-OF-TURN
+  -- which numbers there are: "Number 13 stays unused"
+  pub which : (s : List ℕ) (st : State) → canGive (number (call s st)) ≡ true
 
 -- the ways that a call may go
 pub data Way (far : List ℕ → List ℕ → Type 0) {A : Type 0} (call : List ℕ → State → Outcome A) (late : State → Bool) (s : List ℕ) (st : State) : Type 0 where
@@ -156,6 +158,15 @@ module _ (far : List ℕ → List ℕ → Type 0) {A R : Type 0} (call : List �
         go (lost f l why w e) = not-true l z
         go (well f l a next lo hi e b) = not-true l z
 
+    law-which : canGive (number (out (call s st))) ≡ true
+    law-which = go (ways s st)
+      where
+        go : Way far call late s st → canGive (number (out (call s st))) ≡ true
+        go (unsound f e) = ap canGive (num s st _ e)
+        go (early f l e) = ap canGive (num s st _ e)
+        go (lost f l why w e) = ap canGive (num s st _ e) ∙ plain-given why (w .one)
+        go (well f l a next lo hi e b) = ap canGive (num s st _ e)
+
   pub laws : CallLaws far (λ s st. out (call s st)) number state late
   laws =
       record {
@@ -168,6 +179,7 @@ module _ (far : List ℕ → List ℕ → Type 0) {A R : Type 0} (call : List �
         state-bad = law-bad-back;
         out-of-turn = law-turn;
         turn-out = law-turn-back;
+        which = law-which;
       }
 
 -- an input that agrees with a state's up to a place behind its own is one that the state is sound for

@@ -1,6 +1,6 @@
 -- The refusals of the readers of scalars and headers: none reads as an answer, as BAD STATE, as OUT OF TURN or as MESSAGE SIZE. Assumes nothing.
 use mathlib.Core.Path.{_≡_, refl, sym, ap, subst, _∙_}
-use mathlib.Core.Bool.{Bool, true, false, cond, _&&_}
+use mathlib.Core.Bool.{Bool, true, false, cond, _&&_, _||_}
 use mathlib.Core.List.{List, [], _∷_}
 use mathlib.Core.Logic.{⊎-elim}
 use Prim.Native.Nat.{ℕ, zero, suc, _/_, _%_, _<_}
@@ -10,7 +10,7 @@ use lib.Dec.{eqb, leb, ltb}
 use lib.IntN.{ℤ, pos, _+ℤ_}
 use lib.Signed.{ltZ}
 use lib.ListN.{length, getD, drop}
-use Rattle.types.specs.Refusals.{END, BAD-VERSION, BAD-MESSAGE-TYPE, BAD-TYPE, BAD-BOOL, LONG-VARINT, FIELD-ID, SIZE-LIMIT, NEGATIVE-SIZE, BAD-UTF8, OUT-OF-TURN, BAD-STATE, RANGE, MESSAGE-SIZE}
+use Rattle.types.specs.Refusals.{END, BAD-VERSION, BAD-MESSAGE-TYPE, BAD-TYPE, BAD-BOOL, LONG-VARINT, FIELD-ID, SIZE-LIMIT, NEGATIVE-SIZE, BAD-UTF8, OUT-OF-TURN, NO-ROOM, BAD-STATE, BAD-LIST, RANGE, MESSAGE-SIZE}
 use Rattle.types.specs.Codes.{numbered, typeByNumber, elementType, asField, fieldType, messages, messageByNumber}
 use Rattle.types.specs.declared.TType.{TType}
 use Rattle.types.specs.declared.TType.the-variants as T
@@ -29,18 +29,21 @@ use Rattle.heads.specs.Heads.{int8, number32, number64, int16, int32, int64, do
 use Rattle.heads.proofs.Lawful.{not-both}
 use Rattle.heads.proofs.Steps.{lost-at}
 
--- a refusal of what the input shows, or the call's arguments: it is neither of the gate's two numbers
+-- the numbers of what the input shows, or the call's arguments: END to BAD UTF-8, NO ROOM, BAD LIST, RANGE and MESSAGE SIZE
+abbrev pub plain : ℕ → Bool
+plain why = cond (ltb why OUT-OF-TURN) (ltb 0 why) (eqb why NO-ROOM || (eqb why BAD-LIST || (eqb why RANGE || eqb why MESSAGE-SIZE)))
+
+-- a refusal by one of them: it is neither of the gate's two numbers
 pub record Shown (why : ℕ) : Type 0 where
+  pub one : plain why ≡ true
   pub some : 0 < why
   pub turnless : why ≡ OUT-OF-TURN → ⊥
   pub stateless : why ≡ BAD-STATE → ⊥
 
--- for a number that is given, a computed test
-abbrev pub plain : ℕ → Bool
-plain why = cond (eqb why 0) false (cond (eqb why OUT-OF-TURN) false (cond (eqb why BAD-STATE) false true))
-
+-- the computed test is enough
 pub shown : (why : ℕ) → plain why ≡ true → Shown why
-shown why h = record { some = some why h; turnless = λ e. no (subst plainly e h); stateless = λ e. no (subst plainly e h) }
+shown why h =
+    record { one = h; some = some why h; turnless = λ e. no (subst plainly e h); stateless = λ e. no (subst plainly e h) }
   where
     plainly : ℕ → Type 0
     plainly n = plain n ≡ true
@@ -51,6 +54,21 @@ shown why h = record { some = some why h; turnless = λ e. no (subst plainly e h
     some : (n : ℕ) → plain n ≡ true → 0 < n
     some zero e = absurd (no e)
     some (suc n) e = omega arith
+
+-- what a call answers, as a number: 0 to 12, 14 to 17 and 19. 13 is not among them
+abbrev pub canGive : ℕ → Bool
+canGive n = ltb n 13 || (eqb n BAD-STATE || plain n)
+
+pub plain-given : (why : ℕ) → plain why ≡ true → canGive why ≡ true
+plain-given why h = go (ltb why 13) (eqb why BAD-STATE)
+  where
+    go : (a b : Bool) → (a || (b || plain why)) ≡ true
+    go true b = refl
+    go false true = refl
+    go false false = h
+
+pub never-13 : canGive 13 ≡ false
+never-13 = refl
 
 -- a reader's own: it knows of no ceiling
 pub record Own (why : ℕ) : Type 0 where

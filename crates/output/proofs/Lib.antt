@@ -2,6 +2,7 @@ pub mod Checks
 pub mod Cases
 pub mod Laws
 pub mod Stays
+pub mod Given
 pub mod Back
 pub mod Fields
 pub mod Shortest

@@ -24,7 +24,7 @@ use Rattle.input.specs.Answers.{asDone, numberDone}
 use Rattle.input.specs.declared.Awaited.{Awaited}
 use Rattle.input.specs.declared.Awaited.the-variants as W
 use Rattle.input.specs.declared.ReadDone.{ReadDone}
-use Rattle.input.proofs.Refusals.{Shown, shown}
+use Rattle.input.proofs.Refusals.{Shown, shown, canGive, plain-given}
 use Rattle.input.proofs.Gate.{Gated, bad, turn, through, gated}
 use Rattle.input.proofs.Laws.{any, CallLaws, not-true}
 use Rattle.skip.specs.Walk.{Entry, fields}
@@ -123,6 +123,7 @@ module _ {R : Type 0} (c d : List ℕ → State → R) (number : R → ℕ) (sta
         state-bad = λ s st h. ap number (same s st) ∙ l .state-bad s st h;
         out-of-turn = λ s st h. l .out-of-turn s st (sym (ap number (same s st)) ∙ h);
         turn-out = λ s st h w. ap number (same s st) ∙ l .turn-out s st h w;
+        which = λ s st. ap (λ (r : R). canGive (number r)) (same s st) ∙ l .which s st;
       }
 
 -- a call that is refused whatever the input shows
@@ -199,6 +200,14 @@ module _ (why : State → ℕ) (fl : (st : State) → Shown (why st)) where
         go (early f w e) = num OUT-OF-TURN e
         go (plain f w e) = not-true w y
 
+    by-number : canGive number ≡ true
+    by-number = go (ends s st)
+      where
+        go : Ends s st → canGive number ≡ true
+        go (badly f e) = ap canGive (num BAD-STATE e)
+        go (early f w e) = ap canGive (num OUT-OF-TURN e)
+        go (plain f w e) = ap canGive (num (why st) e) ∙ plain-given (why st) (fl st .one)
+
   flat-laws : CallLaws any flatly (λ r. numberDone (r .answer)) (λ r. r .state) (late T.Struct)
   flat-laws =
       record {
@@ -211,6 +220,7 @@ module _ (why : State → ℕ) (fl : (st : State) → Shown (why st)) where
         state-bad = to-state;
         out-of-turn = by-turn;
         turn-out = to-turn;
+        which = by-number;
       }
 
 -- what the list and the room show

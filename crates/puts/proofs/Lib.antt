@@ -1,3 +1,4 @@
 pub mod Deltas
 pub mod Pieces
 pub mod Checks
+pub mod Most

@@ -49,9 +49,7 @@ BAD-UTF8 = 11
 abbrev pub OUT-OF-TURN : ℕ
 OUT-OF-TURN = 12
 
--- a varint doesn't fit its scratch array of 3, 5 or 10 bytes
-abbrev pub SCRATCH : ℕ
-SCRATCH = 13
+-- 13 stays unused
 
 -- the output lent is too short for this call's bytes or answers
 abbrev pub NO-ROOM : ℕ

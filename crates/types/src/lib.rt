@@ -3,7 +3,7 @@ ghost use mathlib.Core.Path.{_≡_};
 ghost use Rattle.types.specs.Codes.{typeByNumber, elementType, fieldType, typeCode, truthCode, messageByNumber, messageCode};
 ghost use Rattle.types.specs.Limits.{inRange, defaults};
 
-// The refusal numbers. Number 13, SCRATCH, is never given: no scratch array stands between a number and the lent buffer.
+// The refusal numbers. 13 is unused: it was for a number that does not fit its array of 3, 5 or 10 bytes, and every number does.
 pub const END: u8 = 1;
 
 pub const BAD_VERSION: u8 = 2;
@@ -27,8 +27,6 @@ pub const DEPTH: u8 = 10;
 pub const BAD_UTF8: u8 = 11;
 
 pub const OUT_OF_TURN: u8 = 12;
-
-pub const SCRATCH: u8 = 13;
 
 pub const NO_ROOM: u8 = 14;
 

@@ -1,12 +1,12 @@
 use std::fmt;
 
-/// Why a call was refused: a number of the scope's table, 1 to 19.
+/// Why a call was refused: a number of the scope's table, 1 to 19 without 13, which is unused.
 #[derive(Clone, Copy, PartialEq, Eq, Hash)]
 pub struct Refusal(u8);
 
 const NAMES: [&str; 20] = [
     "NONE", "END", "BAD VERSION", "BAD MESSAGE TYPE", "BAD TYPE", "BAD BOOL", "LONG VARINT", "FIELD ID", "SIZE LIMIT", "NEGATIVE SIZE", "DEPTH", "BAD UTF-8",
-    "OUT OF TURN", "SCRATCH", "NO ROOM", "BAD STATE", "BAD LIST", "RANGE", "UNKNOWN", "MESSAGE SIZE",
+    "OUT OF TURN", "UNKNOWN", "NO ROOM", "BAD STATE", "BAD LIST", "RANGE", "UNKNOWN", "MESSAGE SIZE",
 ];
 
 impl Refusal {
