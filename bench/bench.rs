@@ -20,6 +20,61 @@ fn list_of(code: u8) -> Vec<u8> {
     v
 }
 
+/// Numbers of every length, one to ten bytes, in no order that could be foreseen.
+fn list_of_i64() -> Vec<u8> {
+    let mut v = vec![0xF6, 0xA0, 0x8D, 0x06];
+    let mut seed: u64 = 1;
+    for _ in 0..100_000 {
+        seed = seed.wrapping_mul(6_364_136_223_846_793_005).wrapping_add(1_442_695_040_888_963_407);
+        let mut n = seed >> 8 | 1 << 63;
+        n >>= (9 - (seed >> 33) % 10) * 7;
+        while n > 127 {
+            v.push(n as u8 | 128);
+            n >>= 7;
+        }
+        v.push(n as u8);
+    }
+    v
+}
+
+/// A list's numbers by the calls, added up.
+macro_rules! adds_list {
+    ($name:ident, $protocol:ty, $result:ty, $read:ident) => {
+        fn $name(s: &[u8]) -> $result {
+            let mut p = <$protocol>::new(s);
+            let mut sum = 0i64;
+            for _ in 0..p.read_list_begin()?.size {
+                sum = sum.wrapping_add(i64::from(p.$read()?));
+            }
+            Ok(sum)
+        }
+    };
+}
+
+adds_list!(port_adds_i32, port::TCompactInputProtocol, Result<i64, port::Refusal>, read_i32);
+adds_list!(crate_adds_i32, TCompactInputProtocol<&[u8]>, thrift::Result<i64>, read_i32);
+adds_list!(port_adds_i64, port::TCompactInputProtocol, Result<i64, port::Refusal>, read_i64);
+adds_list!(crate_adds_i64, TCompactInputProtocol<&[u8]>, thrift::Result<i64>, read_i64);
+
+/// A struct's i32 fields by the calls, added up.
+macro_rules! adds_fields {
+    ($name:ident, $protocol:ty, $stop:path, $result:ty) => {
+        fn $name(s: &[u8]) -> $result {
+            let mut p = <$protocol>::new(s);
+            let mut sum = 0i64;
+            p.read_struct_begin()?;
+            while p.read_field_begin()?.field_type != $stop {
+                sum += i64::from(p.read_i32()?);
+            }
+            p.read_struct_end()?;
+            Ok(sum)
+        }
+    };
+}
+
+adds_fields!(port_adds_fields, port::TCompactInputProtocol, port::TType::Stop, Result<i64, port::Refusal>);
+adds_fields!(crate_adds_fields, TCompactInputProtocol<&[u8]>, TType::Stop, thrift::Result<i64>);
+
 fn value(i: i32, k: i32) -> f64 {
     f64::from(i) * 0.25 + f64::from(k)
 }
@@ -158,6 +213,7 @@ fn main() {
         ("skip of a list of 100,000 one-byte i32", list_of(5), port::TType::List, TType::List),
         ("skip of a struct of 1000 small i16 fields", struct_of(4), port::TType::Struct, TType::Struct),
         ("skip of a list of 100,000 one-byte i16", list_of(4), port::TType::List, TType::List),
+        ("skip of a list of 100,000 i64 of all lengths", list_of_i64(), port::TType::List, TType::List),
     ] {
         assert_eq!(port::skip(&s, p), Ok(s.len()));
         let a = best(|| drop(black_box(TCompactInputProtocol::new(black_box(&s[..])).skip(c))));
@@ -166,6 +222,14 @@ fn main() {
     }
     let many = struct_of(5);
     line("picking 3 ids of the struct of 1000 fields", best(|| drop(black_box(crate_picks(black_box(&many))))), best(|| drop(black_box(port_picks(black_box(&many))))));
+    for (what, s, theirs, ours) in [
+        ("reading the struct of 1000 fields call by call", many, crate_adds_fields as fn(&[u8]) -> thrift::Result<i64>, port_adds_fields as fn(&[u8]) -> Result<i64, port::Refusal>),
+        ("reading the list of one-byte i32", list_of(5), crate_adds_i32, port_adds_i32),
+        ("reading the list of i64 of all lengths", list_of_i64(), crate_adds_i64, port_adds_i64),
+    ] {
+        assert_eq!(ours(&s), Ok(theirs(&s).unwrap()));
+        line(what, best(|| drop(black_box(theirs(black_box(&s))))), best(|| drop(black_box(ours(black_box(&s))))));
+    }
     line("reading the trial call by call", best(|| drop(black_box(crate_reads(black_box(&trial))))), best(|| drop(black_box(port_reads(black_box(&trial))))));
     line("writing it", best(|| drop(black_box(crate_writes(&mut theirs)))), best(|| drop(black_box(port_writes(&mut buffer)))));
 }

@@ -2,8 +2,8 @@
 -- Assumes nothing.
 use mathlib.Core.Path.{_≡_, refl, sym, ap, ap₂, _∙_}
 use mathlib.Core.List.{List}
-use Prim.Native.Nat.{ℕ, suc, _+_, _-_, _*_, _%_, _^_, _≤_, _<_}
-use native.Mathlib.Nat.{mod-add-mod, add-mod-mod, mod-eq-of-lt, mul-add, mul-assoc, mul-comm, zero-add, one-mul}
+use Prim.Native.Nat.{ℕ, suc, _+_, _-_, _*_, _%_, _^_, _≤_, _<_, zero-le, suc-le-suc}
+use native.Mathlib.Nat.{mod-add-mod, add-mod-mod, mod-eq-of-lt, mul-add, mul-assoc, mul-comm, zero-add, one-mul, mul-one, le-trans}
 use native.Mathlib.Numerals.{add-one}
 use native.Mathlib.Omega.{arith}
 use borrow.Author.Tests.{lt-ltb, le-ltb}
@@ -96,3 +96,16 @@ module _ {X : Type 0} (f : Found ℕ → X) (w m at a sh k : ℕ) (s : List ℕ)
 
 pub turned : (w m at a sh k : ℕ) (s : List ℕ) (p b a′ : ℕ) → run w a sh k s p ≡ varintAt w m s at → 0 < k → p < length s → b ≡ getD s p 0 → a′ ≡ added w a sh b → 128 ≤ b → run w a′ (sh + 7) (k - 1) s (p + 1) ≡ varintAt w m s at
 turned w m at a sh k s p b a′ inv h i eb ea l = next w a sh k s p b a′ h i eb ea l ∙ inv
+
+-- A first byte below 128 is the whole number, at once.
+one-group : (w b : ℕ) → b < 2 ^ w → b < 128 → b ≡ added w 0 0 b
+one-group w b wide l =
+    sym
+    (ap (λ (r : ℕ). (0 + r * 2 ^ 0 % 2 ^ w) % 2 ^ w) (mod-eq-of-lt l)
+    ∙ ap (λ (r : ℕ). (0 + r % 2 ^ w) % 2 ^ w) (mul-one b)
+    ∙ ap (λ (r : ℕ). (0 + r) % 2 ^ w) (mod-eq-of-lt wide)
+    ∙ ap (λ (r : ℕ). r % 2 ^ w) (zero-add b)
+    ∙ mod-eq-of-lt wide)
+
+pub as-one : {X : Type 0} (f : Found ℕ → X) (w k : ℕ) → 128 ≤ 2 ^ w → (s : List ℕ) (at b : ℕ) → at < length s → b ≡ getD s at 0 → b < 128 → f (got b (at + 1)) ≡ f (varintAt w (suc k) s at)
+as-one f w k wide s at b i eb l = ap f (last w 0 0 (suc k) s at b b (suc-le-suc zero-le) i eb (one-group w b (le-trans l wide) l) l ∙ start w (suc k) s at)

@@ -50,7 +50,7 @@ fn wide64(b: u8) -> u64
 }
 
 // A byte's group is shifted to its place; bits past the 32nd are dropped there.
-pub fn read_varint32(s: &[u8], at: usize) -> Varint32
+fn long_varint32(s: &[u8], at: usize) -> Varint32
     ensures { λ r. ⌜ r ≡ varint32At (now (s .entry)) at ⌝ }
 {
     let mut value: u32 = 0;
@@ -73,7 +73,20 @@ pub fn read_varint32(s: &[u8], at: usize) -> Varint32
     Varint32::Refused(types::LONG_VARINT)
 }
 
-pub fn read_varint64(s: &[u8], at: usize) -> Varint64
+// Nearly every number is one byte: that case is answered at once, the others by the loop, which stands apart so that this is short enough to stand in its callers.
+pub fn read_varint32(s: &[u8], at: usize) -> Varint32
+    ensures { λ r. ⌜ r ≡ varint32At (now (s .entry)) at ⌝ }
+{
+    if at < s.len() {
+        let b = wide32(s[at]);
+        if b < 128 {
+            return Varint32::Got(b, at + 1);
+        }
+    }
+    long_varint32(s, at)
+}
+
+fn long_varint64(s: &[u8], at: usize) -> Varint64
     ensures { λ r. ⌜ r ≡ varint64At (now (s .entry)) at ⌝ }
 {
     let mut value: u64 = 0;
@@ -94,6 +107,18 @@ pub fn read_varint64(s: &[u8], at: usize) -> Varint64
         left = left - 1;
     }
     Varint64::Refused(types::LONG_VARINT)
+}
+
+pub fn read_varint64(s: &[u8], at: usize) -> Varint64
+    ensures { λ r. ⌜ r ≡ varint64At (now (s .entry)) at ⌝ }
+{
+    if at < s.len() {
+        let b = wide64(s[at]);
+        if b < 128 {
+            return Varint64::Got(b, at + 1);
+        }
+    }
+    long_varint64(s, at)
 }
 
 // An i16 is read as a 32-bit zigzag number. One that has more than 16 bits is out of range.

@@ -1,76 +1,28 @@
-use mathlib.Core.Path.{_≡_}
-use Prim.Native.Nat.{_+_, _*_}
 use borrow.Author.Needs.{needs}
-use Rattle.numbers.specs.Varint.{varintAt}
+use lib.Dec.{lit≤}
 use Rattle.numbers.specs.Answers.{as32, varint32At}
-use Rattle.numbers.proofs.Read.{run, start, as-ended, as-last, as-spent, turned}
+use Rattle.numbers.proofs.Read.{as-one}
 use Rattle.numbers.proofs.read_varint32.Statement.{statement}
 use Rattle.numbers.proofs.read_varint32.Tie as tie
 
-abbrev Inv-loop : tie.InvT-loop
-Inv-loop s at value₀ shift₀ left₀ p₀ value shift left p = (shift + 7 * left ≡ 35) × (run 32 value shift left s p ≡ varintAt 32 5 s at)
-
-abbrev μ-loop : tie.MeasureT-loop
-μ-loop s at value₀ shift₀ left₀ p₀ value shift left p = left
-
-loop-holds : tie.Need-loop-holds Inv-loop μ-loop
-loop-holds c = search (needs, start)
-
-returns : tie.Need-returns Inv-loop μ-loop
-unfolding varint32At
-returns c = search (as-ended as32)
-
-shared-slice-read-wide32 : tie.Need-shared-slice-read-wide32 Inv-loop μ-loop
+shared-slice-read-wide32 : tie.Need-shared-slice-read-wide32
 shared-slice-read-wide32 c = search needs
 
-wide32-requires : tie.Need-wide32-requires Inv-loop μ-loop
+wide32-requires : tie.Need-wide32-requires
 wide32-requires c κs = search needs
 
-shl-wrapping-add-u32 : tie.Need-shl-wrapping-add-u32 Inv-loop μ-loop
-shl-wrapping-add-u32 c = search needs
+add-t9 : tie.Need-add-t9
+add-t9 c = search needs
 
-wrapping-add-u32-requires : tie.Need-wrapping-add-u32-requires Inv-loop μ-loop
-wrapping-add-u32-requires c κs = search needs
-
-add-p : tie.Need-add-p Inv-loop μ-loop
-add-p c = search needs
-
-returns-2 : tie.Need-returns-2 Inv-loop μ-loop
+returns : tie.Need-returns
 unfolding varint32At
-returns-2 c = search (as-last as32)
+returns c = search (as-one as32 32 4 (lit≤ tt))
 
-add-shift : tie.Need-add-shift Inv-loop μ-loop
-add-shift c = search needs
+long-varint32-requires : tie.Need-long-varint32-requires
+long-varint32-requires c κs = search needs
 
-sub-left : tie.Need-sub-left Inv-loop μ-loop
-sub-left c = search needs
-
-loop-less : tie.Need-loop-less Inv-loop μ-loop
-loop-less c = search needs
-
-loop-again : tie.Need-loop-again Inv-loop μ-loop
-loop-again c = (search needs, search turned)
-
-returns-3 : tie.Need-returns-3 Inv-loop μ-loop
-unfolding varint32At
-returns-3 c = search (as-spent as32)
+returns-2 : tie.Need-returns-2
+returns-2 c = search needs
 
 pub read-varint32-spec : {M : Type 1} → statement M
-read-varint32-spec =
-    tie.close
-    (tie.spec
-    Inv-loop
-    μ-loop
-    loop-holds
-    returns
-    shared-slice-read-wide32
-    wide32-requires
-    shl-wrapping-add-u32
-    wrapping-add-u32-requires
-    add-p
-    returns-2
-    add-shift
-    sub-left
-    loop-less
-    loop-again
-    returns-3)
+read-varint32-spec = tie.close (tie.spec shared-slice-read-wide32 wide32-requires add-t9 returns long-varint32-requires returns-2)
