@@ -1,4 +1,4 @@
-/* Thrift's compact protocol: a reader, a writer, skip and a field picker over lent memory, each function proved to meet its contract.
+/* Thrift's compact protocol: a reader, a writer, skip, a field picker and the day file over lent memory, each function proved to meet its contract.
  *
  * Link with target/staticlib/libhost.a, which `rt staticlib host` makes. It needs memcpy and memset, and nothing else.
  *
@@ -59,6 +59,7 @@ enum {
                                        ceiling; a depth over its limit */
     TAGRUMZIL_BAD_LIST = 16,        /* wanted ids and types differ in number, over 64 of them, an id twice, or a type that no field can have */
     TAGRUMZIL_RANGE = 17,           /* an i16, as value or field id, outside -32768 to 32767 */
+    TAGRUMZIL_BAD_DAY = 18,         /* a day file that breaks a rule; a message number that it has not; messages that make no day file */
     TAGRUMZIL_MESSAGE_SIZE = 19     /* a byte needed lies past the message's ceiling, with input behind it; a call's bytes would pass it */
 };
 
@@ -162,6 +163,18 @@ uint8_t tagrumzil_write_list_begin(uint8_t *buf, size_t n, uint64_t *row, size_t
 uint8_t tagrumzil_write_set_begin(uint8_t *buf, size_t n, uint64_t *row, size_t m, uint8_t kind, int32_t count);
 /* A map's header. An empty map has no types: the numbers given for them have no say. */
 uint8_t tagrumzil_write_map_begin(uint8_t *buf, size_t n, uint64_t *row, size_t m, uint8_t key, uint8_t value, int32_t count);
+
+/* ---- The day file, which needs no state: a day's messages in one file. A header of a count N and N + 1 offsets, each a little-endian 32-bit number, then the
+ * messages one after another. The first offset is 4N + 8, each is larger than the one before, the last is the file's length; N is at most 4096. What stands in a
+ * message is checked only when it is read: as an input of its own (file + start, end - start), or by a row with its start in row[0] and row[5]. */
+
+/* Whether the file keeps these rules, and how many messages it has. BAD_DAY. */
+uint8_t tagrumzil_check_day(const uint8_t *file, size_t n, size_t *count);
+/* Where message k, counted from 0, starts and ends. The whole file is checked first. BAD_DAY, for a number of N or more too. */
+uint8_t tagrumzil_day_message(const uint8_t *file, size_t n, size_t k, size_t *start, size_t *end);
+/* The file of m messages, which stand one behind the other in the k bytes, each up to its end, at the start of the output; and its length, 4m + 8 + k. BAD_DAY for
+ * an empty message, more than 4096, a file of more than 4294967295 bytes, or ends that do not rise to k; then NO_ROOM. */
+uint8_t tagrumzil_write_day(uint8_t *out, size_t n, const uint8_t *bytes, size_t k, const size_t *ends, size_t m, size_t *length);
 
 #ifdef __cplusplus
 }

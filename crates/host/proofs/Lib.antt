@@ -1,3 +1,4 @@
+pub mod Daily
 pub mod Through
 pub mod Making
 pub mod Nesting

@@ -1,5 +1,6 @@
 // The port for C and Rust: plain numbers and slices, and a state in a lent row.
 mod bare;
+mod day;
 mod nested;
 mod picking;
 mod reading;

@@ -18,10 +18,11 @@ use Rattle.numbers.specs.Varint.{fewest}
 use Rattle.zigzag.specs.Zigzag.{unzigzag}
 use Rattle.zigzag.proofs.Zig.{range-exact}
 use Rattle.numbers.specs.Fixed.{little, littleOf, four, eight}
-use Rattle.numbers.specs.Answers.{varint32At, signed16At, bits64At, wroteAt, putAt}
+use Rattle.numbers.specs.Answers.{varint32At, signed16At, bits32At, bits64At, wroteAt, putAt}
 use Rattle.numbers.specs.declared.Varint32.{Varint32}
 use Rattle.numbers.specs.declared.Varint32.the-variants as V32
 use Rattle.numbers.specs.declared.Int16.the-variants as I16
+use Rattle.numbers.specs.declared.Bits32.the-variants as B32
 use Rattle.numbers.specs.declared.Bits64.the-variants as B64
 use Rattle.numbers.specs.declared.Wrote.the-variants as W
 use Rattle.numbers.proofs.Fewest.{fewest-one, fewest-more, fewest-len}
@@ -218,3 +219,37 @@ module _ (short : Bool) (s : List ℕ) (at : ℕ) (e : short ≡ ltb (length s) 
       rw (le-ltb (length s) (at + 8) room, sum)
 
 pub ruleset le-cases = (le-short, le-got, low-in, high-in, high-fits, room-fits)
+
+-- four bytes, read and written
+module _ (short : Bool) (have at : ℕ) (e : short ≡ ltb have (at + 4)) (f : short ≡ false) where
+  pub word-in : at + 4 ≤ have
+  word-in = roomy short have at 4 e f
+
+module _ (short : Bool) (s : List ℕ) (at : ℕ) (e : short ≡ ltb (length s) (at + 4)) where
+  pub word-short : short ≡ true → B32.Refused END ≡ bits32At s at
+  unfolding bits32At
+  word-short t = rw (← e, t)
+
+  pub word-got : short ≡ false → (v : ℕ) → v ≡ little (slice at (at + 4) s) → B32.Got v (at + 4) ≡ bits32At s at
+  unfolding bits32At
+  word-got f v g = rw (← e, f, g)
+
+pub word-fits : (v : ℕ) → v < 0x1_0000_0000 → Fits w32 v
+word-fits v h = record { fits = h }
+
+pub ruleset word-cases = (word-in, word-short, word-got, word-fits, room-fits)
+
+module _ (short : Bool) (buf : List ℕ) (at n : ℕ) (e : short ≡ ltb (length buf) (at + 4)) (f : short ≡ false) where
+  pub four-to : W.To (at + 4) ≡ wroteAt buf at (four n)
+  unfolding four
+  four-to = wrote-to buf at (four n) (roomy short (length buf) at 4 e f)
+
+  pub four-put : (low : List ℕ) → low ≡ sets buf at (four n) → low ≡ putAt buf at (four n)
+  unfolding four
+  four-put low g = g ∙ put-in buf at (four n) (roomy short (length buf) at 4 e f)
+
+pub length-four : (n : ℕ) → 4 ≡ length (four n)
+unfolding four
+length-four n = refl
+
+pub ruleset four-cases = (short-answer, short-left, length-four, word-in, four-to, four-put, length-low, room-fits)

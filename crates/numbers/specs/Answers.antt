@@ -16,6 +16,8 @@ use Rattle.numbers.specs.declared.Varint64.{Varint64}
 use Rattle.numbers.specs.declared.Varint64.the-variants as V64
 use Rattle.numbers.specs.declared.Int16.{Int16}
 use Rattle.numbers.specs.declared.Int16.the-variants as I16
+use Rattle.numbers.specs.declared.Bits32.{Bits32}
+use Rattle.numbers.specs.declared.Bits32.the-variants as B32
 use Rattle.numbers.specs.declared.Bits64.{Bits64}
 use Rattle.numbers.specs.declared.Bits64.the-variants as B64
 use Rattle.numbers.specs.declared.Wrote.{Wrote}
@@ -33,6 +35,10 @@ as64 (refused why) = V64.Refused why
 abbrev pub as16 : Found ℤ → Int16
 as16 (got z p) = I16.Got z p
 as16 (refused why) = I16.Refused why
+
+abbrev pub asBits32 : Found ℕ → Bits32
+asBits32 (got v p) = B32.Got v p
+asBits32 (refused why) = B32.Refused why
 
 abbrev pub asBits : Found ℕ → Bits64
 asBits (got v p) = B64.Got v p
@@ -58,6 +64,10 @@ signed16At s at = as16 (signed16 (varintAt 32 5 s at))
 -- the number of k bytes from a place on, lowest first; END where "a byte needed lies past the input"
 abbrev pub littleAt : ℕ → List ℕ → ℕ → Found ℕ
 littleAt k s at = cond (ltb (length s) (at + k)) (refused END) (got (little (slice at (at + k) s)) (at + k))
+
+-- 32 bits, "a little-endian 32-bit number" of a day file's header
+unfoldable pub bits32At : List ℕ → ℕ → Bits32
+bits32At s at = asBits32 (littleAt 4 s at)
 
 -- "Double: 8 bytes, little-endian, any bits kept": the 64 bits at a place of the input
 unfoldable pub bits64At : List ℕ → ℕ → Bits64

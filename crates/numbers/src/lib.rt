@@ -1,4 +1,4 @@
-// The numbers of the compact protocol in bytes: varints of 32 and 64 bits, i16, and eight little-endian bytes.
+// The numbers of the compact protocol in bytes: varints of 32 and 64 bits, i16, and four or eight little-endian bytes.
 ghost use mathlib.Core.List.{[], _∷_};
 ghost use mathlib.Core.Path.{_≡_};
 ghost use Prim.Native.Nat.{_+_, _≤_, _<_};
@@ -7,7 +7,7 @@ ghost use lib.ListN.{length};
 ghost use lib.Seq.{sets, slice};
 ghost use Rattle.numbers.specs.Varint.{fewest};
 ghost use Rattle.numbers.specs.Fixed.{little, four, eight};
-ghost use Rattle.numbers.specs.Answers.{varint32At, varint64At, signed16At, bits64At, wroteAt, putAt};
+ghost use Rattle.numbers.specs.Answers.{varint32At, varint64At, signed16At, bits32At, bits64At, wroteAt, putAt};
 
 // A number and the place behind it, or the number of a refusal: END, LONG VARINT, and of an i16 RANGE.
 pub enum Varint32 {
@@ -25,7 +25,13 @@ pub enum Int16 {
     Refused(u8),
 }
 
-// The bits of eight bytes and the place behind them, or END.
+// The bits of four bytes and the place behind them, or END.
+pub enum Bits32 {
+    Got(u32, usize),
+    Refused(u8),
+}
+
+// The same of eight.
 pub enum Bits64 {
     Got(u64, usize),
     Refused(u8),
@@ -154,6 +160,17 @@ fn read_four(s: &[u8], at: usize) -> u64
     wide64(s[at]) + (wide64(s[at + 1]) << 8) + (wide64(s[at + 2]) << 16) + (wide64(s[at + 3]) << 24)
 }
 
+// The four bytes from a place on, the last of them the highest.
+pub fn read_le32(s: &[u8], at: usize) -> Bits32
+    ensures { λ r. ⌜ r ≡ bits32At (now (s .entry)) at ⌝ }
+{
+    if lacks_room(s.len(), at, 4) {
+        return Bits32::Refused(types::END);
+    }
+    let bits = read_four(s, at);
+    Bits32::Got(bits as u32, at + 4)
+}
+
 // The eight bytes from a place on, the last of them the highest. Without a loop they are one load.
 pub fn read_le64(s: &[u8], at: usize) -> Bits64
     ensures { λ r. ⌜ r ≡ bits64At (now (s .entry)) at ⌝ }
@@ -226,7 +243,18 @@ fn write_four(buf: &mut [u8], at: usize, n: u64)
     buf[at + 3] = ((n >> 24) % 256) as u8;
 }
 
-// The eight bytes of the bits, lowest first. Without a loop they are one store.
+// The four bytes of the bits, lowest first.
+pub fn write_le32(buf: &mut [u8], at: usize, n: u32) -> Wrote
+    ensures { λ r. ⌜ (r ≡ wroteAt (now (buf .entry)) at (four n)) × (now (buf .exit) ≡ putAt (now (buf .entry)) at (four n)) ⌝ }
+{
+    if lacks_room(buf.len(), at, 4) {
+        return Wrote::Refused(types::NO_ROOM);
+    }
+    write_four(buf, at, n as u64);
+    Wrote::To(at + 4)
+}
+
+// The eight bytes of the bits. Without a loop they are one store.
 pub fn write_le64(buf: &mut [u8], at: usize, n: u64) -> Wrote
     ensures { λ r. ⌜ (r ≡ wroteAt (now (buf .entry)) at (eight n)) × (now (buf .exit) ≡ putAt (now (buf .entry)) at (eight n)) ⌝ }
 {

@@ -67,6 +67,10 @@ BAD-LIST = 16
 abbrev pub RANGE : ℕ
 RANGE = 17
 
+-- a day file that breaks its rules, a message number of N or more, or messages that make no day file
+abbrev pub BAD-DAY : ℕ
+BAD-DAY = 18
+
 -- a byte missed where the message's ceiling ends it, with input behind; a call that would write past the ceiling
 abbrev pub MESSAGE-SIZE : ℕ
 MESSAGE-SIZE = 19

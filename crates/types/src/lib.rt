@@ -36,6 +36,8 @@ pub const BAD_LIST: u8 = 16;
 
 pub const RANGE: u8 = 17;
 
+pub const BAD_DAY: u8 = 18;
+
 pub const MESSAGE_SIZE: u8 = 19;
 
 // A field's id, a message's sequence number and a place in the lent bytes: three kinds of number, each a type of its own.

@@ -49,4 +49,8 @@ extern "C" {
     pub fn tagrumzil_write_list_begin(buf: *mut u8, n: usize, row: *mut u64, m: usize, kind: u8, count: i32) -> u8;
     pub fn tagrumzil_write_set_begin(buf: *mut u8, n: usize, row: *mut u64, m: usize, kind: u8, count: i32) -> u8;
     pub fn tagrumzil_write_map_begin(buf: *mut u8, n: usize, row: *mut u64, m: usize, key: u8, value: u8, count: i32) -> u8;
+
+    pub fn tagrumzil_check_day(file: *const u8, n: usize, count: *mut usize) -> u8;
+    pub fn tagrumzil_day_message(file: *const u8, n: usize, k: usize, start: *mut usize, end: *mut usize) -> u8;
+    pub fn tagrumzil_write_day(out: *mut u8, n: usize, bytes: *const u8, k: usize, ends: *const usize, m: usize, length: *mut usize) -> u8;
 }

@@ -1,4 +1,4 @@
-//! Thrift's compact protocol over slices: a reader, a writer, skip and a field picker, each call proved to meet its contract in the core that this crate links.
+//! Thrift's compact protocol over slices: a reader, a writer, skip, a field picker and the day file, each call proved to meet its contract in the core that this crate links.
 //!
 //! The names are those of the crate `thrift`. A reader borrows its input and hands out parts of it, a writer borrows its buffer; neither allocates.
 //! A refused call hands back a [`Refusal`] with its number and leaves reader, writer and buffer as they were, so it may be tried again.
@@ -24,6 +24,7 @@
 //! ```
 #![warn(missing_docs)]
 
+mod day;
 mod ffi;
 mod number;
 mod reader;
@@ -31,6 +32,7 @@ mod refusal;
 mod types;
 mod writer;
 
+pub use day::{write_day, Day, DayWriter, Messages};
 pub use number::{i32_to_zigzag, i64_to_zigzag, read_i16, read_le64, read_varint32, read_varint64, varint_len, write_varint, zigzag_to_i32, zigzag_to_i64};
 pub use reader::{skip, Picked, TCompactInputProtocol};
 pub use refusal::Refusal;

@@ -6,7 +6,7 @@ pub struct Refusal(u8);
 
 const NAMES: [&str; 20] = [
     "NONE", "END", "BAD VERSION", "BAD MESSAGE TYPE", "BAD TYPE", "BAD BOOL", "LONG VARINT", "FIELD ID", "SIZE LIMIT", "NEGATIVE SIZE", "DEPTH", "BAD UTF-8",
-    "OUT OF TURN", "UNKNOWN", "NO ROOM", "BAD STATE", "BAD LIST", "RANGE", "UNKNOWN", "MESSAGE SIZE",
+    "OUT OF TURN", "UNKNOWN", "NO ROOM", "BAD STATE", "BAD LIST", "RANGE", "BAD DAY", "MESSAGE SIZE",
 ];
 
 impl Refusal {
@@ -42,6 +42,8 @@ impl Refusal {
     pub const BAD_LIST: Refusal = Refusal(16);
     /// An i16, as value or field id, outside -32,768 to 32,767.
     pub const RANGE: Refusal = Refusal(17);
+    /// A day file that breaks a rule, a message number that it has not, or messages that make no day file.
+    pub const BAD_DAY: Refusal = Refusal(18);
     /// A byte needed lies past the message's ceiling, with input behind it; or a call's bytes would pass it.
     pub const MESSAGE_SIZE: Refusal = Refusal(19);
 
