@@ -196,7 +196,7 @@ pub fn read_string(s: &[u8], place: Place, limits: TConfiguration) -> PartRead
 }
 
 // What is wrong with a count, in the order of the rules; 0 where nothing is.
-fn count_refusal(n: u32, limits: TConfiguration) -> u8
+pub fn count_refusal(n: u32, limits: TConfiguration) -> u8
     ensures { λ r. ⌜ r ≡ countWhy limits n ⌝ }
 {
     if 2_147_483_647 < n {
@@ -220,7 +220,7 @@ fn listed(kind: TType, n: u32, next: usize, limits: TConfiguration) -> ListHead
 }
 
 // The fewest bytes that so many values of a type take. The count has 32 bits, so that the product is far from 64.
-fn least_bytes(count: u32, kind: TType) -> usize
+pub fn least_bytes(count: u32, kind: TType) -> usize
     ensures { λ r. ⌜ (r ≡ count * leastSize kind) × (r < 0x10_0000_0000) ⌝ }
 {
     let n = count as usize;

@@ -62,7 +62,7 @@ pub fn skip_value(s: &[u8], at: Place, kind: TType, room: usize, limits: TConfig
 }
 
 // Whether a container's elements can begin: of the type Stop there are none.
-fn can_begin(kind: TType, count: u32) -> bool
+pub fn can_begin(kind: TType, count: u32) -> bool
     ensures { λ r. ⌜ r ≡ startable kind count ⌝ }
 {
     if count == 0 {
