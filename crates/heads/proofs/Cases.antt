@@ -8,7 +8,7 @@ use native.Mathlib.Nat.{add-zero}
 use native.Mathlib.Omega.{arith}
 use native.Mathlib.Decide.{decLt}
 use borrow.Author.Needs.{sfits-of}
-use borrow.Author.Tests.{eq-eqb, ne-eqb, lt-ltb, le-ltb, le-leb, lt-leb}
+use borrow.Author.Tests.{eq-eqb, ne-eqb, lt-ltb, le-ltb, le-leb, lt-leb, ltb-true}
 use lib.Dec.{leb, ltb, eqb}
 use lib.ListN.{length, getD, take, drop, length-drop, drop-of-length-le}
 use lib.Seq.{length-take-le}
@@ -17,7 +17,7 @@ use mir.Syntax.{w8, w32, w64}
 use mir.Val.{toZ, Fits}
 use mir.Facts.{toZ-ofZ}
 use Rattle.types.specs.Refusals.{END, BAD-VERSION, BAD-TYPE, BAD-BOOL, SIZE-LIMIT, NEGATIVE-SIZE, BAD-UTF8, RANGE}
-use Rattle.types.specs.Codes.{elementType, messageByNumber}
+use Rattle.types.specs.Codes.{typeCode, typeByNumber, elementType, messageByNumber}
 use Rattle.types.specs.declared.TType.{TType}
 use Rattle.types.specs.declared.TType.the-variants as T
 use Rattle.types.specs.declared.TypeRead.{TypeRead}
@@ -27,6 +27,7 @@ use Rattle.types.specs.declared.TMessageType.{TMessageType}
 use Rattle.types.specs.declared.MessageTypeRead.{MessageTypeRead}
 use Rattle.types.specs.declared.MessageTypeRead.the-variants as MR
 use Rattle.types.specs.declared.TConfiguration.{TConfiguration}
+use Rattle.tables.specs.Rows.{elementNo, listRow}
 use Rattle.numbers.specs.Varint.{Found, got, refused, placed, varint, varintAt}
 use Rattle.zigzag.specs.Zigzag.{unzigzag, inRange16}
 use Rattle.numbers.specs.Fixed.{little}
@@ -452,26 +453,66 @@ module _ (s : List ℕ) (code at : ℕ) (r : TypeRead) (e : r ≡ elementType co
   typed-no : (why : ℕ) → r ≡ R.Refused why → readAt (typed (elementType code)) s at ≡ refused why
   typed-no why g = ap (λ (x : TypeRead). readAt (typed x) s at) (sym e ∙ g) ∙ refuse-at s at why
 
+-- a list's first byte by the table: a type by its number in the row is the one that the code's rule gives, and the count is the high 4 bits
+abbrev Element : ℕ → Type 0
+Element c = (typeByNumber (elementNo (elementType c)) ≡ elementType c) × (ltb (elementNo (elementType c)) 16 ≡ true)
+
+-- all codes, by computing each
+element : (c : ℕ) → c < 16 → Element c
+unfolding elementType typeByNumber typeCode
+element zero h = (refl, refl)
+element (suc zero) h = (refl, refl)
+element (suc (suc zero)) h = (refl, refl)
+element (suc (suc (suc zero))) h = (refl, refl)
+element (suc (suc (suc (suc zero)))) h = (refl, refl)
+element (suc (suc (suc (suc (suc zero))))) h = (refl, refl)
+element (suc (suc (suc (suc (suc (suc zero)))))) h = (refl, refl)
+element (suc (suc (suc (suc (suc (suc (suc zero))))))) h = (refl, refl)
+element (suc (suc (suc (suc (suc (suc (suc (suc zero)))))))) h = (refl, refl)
+element (suc (suc (suc (suc (suc (suc (suc (suc (suc zero))))))))) h = (refl, refl)
+element (suc (suc (suc (suc (suc (suc (suc (suc (suc (suc zero)))))))))) h = (refl, refl)
+element (suc (suc (suc (suc (suc (suc (suc (suc (suc (suc (suc zero))))))))))) h = (refl, refl)
+element (suc (suc (suc (suc (suc (suc (suc (suc (suc (suc (suc (suc zero)))))))))))) h = (refl, refl)
+element (suc (suc (suc (suc (suc (suc (suc (suc (suc (suc (suc (suc (suc zero))))))))))))) h = (refl, refl)
+element (suc (suc (suc (suc (suc (suc (suc (suc (suc (suc (suc (suc (suc (suc zero)))))))))))))) h = (refl, refl)
+element (suc (suc (suc (suc (suc (suc (suc (suc (suc (suc (suc (suc (suc (suc (suc zero))))))))))))))) h = (refl, refl)
+element (suc (suc (suc (suc (suc (suc (suc (suc (suc (suc (suc (suc (suc (suc (suc (suc c)))))))))))))))) h = absurd (omega arith)
+
+module _ (b row : ℕ) (e : row ≡ listRow b) where
+  row-small : elementNo (elementType (b % 16)) < 16
+  row-small = ltb-true _ 16 (element (b % 16) (omega arith) .1)
+
+  row-count : row / 256 ≡ b / 16
+  unfolding listRow
+  row-count = rw e (omega (arith, row-small))
+
+  row-element : (r : TypeRead) → r ≡ typeByNumber (row % 256) → r ≡ elementType (b % 16)
+  unfolding listRow
+  row-element r f = let k : row % 256 ≡ elementNo (elementType (b % 16)) = rw e (omega (arith, row-small)) in f ∙ ap typeByNumber k ∙ element (b % 16) (omega arith) .0
+
 -- read_list_begin
 module _ (s : List ℕ) (lim : TConfiguration) (at : ℕ) where
   pub list-end : length s ≤ at → L.Refused END ≡ itemsAt s lim at
   unfolding itemsAt items
   list-end h = sym (ap toList (stop-at _ _ s at END (byte-out s at h)))
 
-  module _ (h : at < length s) (r : TypeRead) (e : r ≡ elementType (getD s at 0 % 16)) where
+  module _ (h : at < length s) (row : ℕ) (w : row ≡ listRow (getD s at 0)) (r : TypeRead) (z : r ≡ typeByNumber (row % 256)) where
+    e : r ≡ elementType (getD s at 0 % 16)
+    e = row-element _ row w r z
+
     pub list-untyped : (why : ℕ) → r ≡ R.Refused why → L.Refused why ≡ itemsAt s lim at
     unfolding itemsAt items
     list-untyped why g = sym (ap toList (step _ _ s at _ _ (byte-at s at h) ∙ stop-at _ _ s _ _ (typed-no s _ (at + 1) r e why g)))
 
     module _ (t : TType) (g : r ≡ R.Got t) where
-      sized : itemsAt s lim at ≡ toList (readAt (andThen (cond (ltb (getD s at 0 / 16) 15) (done (getD s at 0 / 16)) number32) (listed lim t)) s (at + 1))
+      sized : itemsAt s lim at ≡ toList (readAt (andThen (cond (ltb (row / 256) 15) (done (row / 256)) number32) (listed lim t)) s (at + 1))
       unfolding itemsAt items
-      sized = ap toList (step _ _ s at _ _ (byte-at s at h) ∙ step _ _ s _ _ _ (typed-yes s _ (at + 1) r e t g))
+      sized = rw (row-count _ row w) (ap toList (step _ _ s at _ _ (byte-at s at h) ∙ step _ _ s _ _ _ (typed-yes s _ (at + 1) r e t g)))
 
-      pub list-short : (q : ListHead) → getD s at 0 / 16 < 15 → q ≡ listedAt lim t (getD s at 0 / 16) (at + 1) → q ≡ itemsAt s lim at
-      list-short q k f = f ∙ sym (sized ∙ rw (lt-ltb _ 15 k) (ap toList (step _ _ s _ _ _ (done-at s (at + 1) (getD s at 0 / 16))) ∙ listed-at s lim t _ _))
+      pub list-short : (q : ListHead) → row / 256 < 15 → q ≡ listedAt lim t (row / 256) (at + 1) → q ≡ itemsAt s lim at
+      list-short q k f = f ∙ sym (sized ∙ rw (lt-ltb _ 15 k) (ap toList (step _ _ s _ _ _ (done-at s (at + 1) (row / 256))) ∙ listed-at s lim t _ _))
 
-      module _ (k : 15 ≤ getD s at 0 / 16) (v : Varint32) (x : v ≡ varint32At s (at + 1)) where
+      module _ (k : 15 ≤ row / 256) (v : Varint32) (x : v ≡ varint32At s (at + 1)) where
         pub list-uncounted : (why : ℕ) → v ≡ V32.Refused why → L.Refused why ≡ itemsAt s lim at
         list-uncounted why y = sym (sized ∙ rw (le-ltb _ 15 k) (ap toList (stop-at _ _ s _ _ (no-32 s (at + 1) v x why y))))
 

@@ -4,7 +4,6 @@ use mathlib.Core.Bool.{Bool}
 use mathlib.Core.List.{List, []}
 use lib.ListN.{length}
 use lib.IntN.{ℤ}
-use Rattle.types.specs.Codes.{fieldType}
 use Rattle.types.specs.declared.TType.{TType}
 use Rattle.types.specs.declared.FieldType.{FieldType}
 use Rattle.types.specs.declared.FieldType.the-variants as FT
@@ -13,6 +12,7 @@ use Rattle.types.specs.declared.TConfiguration.{TConfiguration}
 use Rattle.types.specs.declared.Place.{Place}
 use Rattle.types.specs.declared.FieldId.{FieldId}
 use Rattle.types.specs.declared.SeqNo.{SeqNo}
+use Rattle.tables.specs.Rows.{rowType}
 use Rattle.numbers.specs.Varint.{Found, got, refused, placed}
 use Rattle.heads.specs.Reader.{readAt, some}
 use Rattle.heads.specs.Heads.{int8, int16, int32, int64, double, truth, uuid, binary, text, counted, listed, items, mapped, pairs, itemsHead, pairsHead, Field, stop, bool, value, field, Message, named, versioned, message}
@@ -160,17 +160,18 @@ headOf (FT.Truth b) id at = F.Bool b (idOf id) (place at)
 headOf (FT.Kind t) id at = F.Value t (idOf id) (place at)
 headOf (FT.Refused why) id at = F.Refused why
 
+-- of a row of the table
 unfoldable pub headAt : ℕ → ℤ → ℕ → FieldHead
-headAt code id at = headOf (fieldType code) id at
+headAt row id at = headOf (rowType row) id at
 
 -- the same of an id that has to be found first
 abbrev pub headWith : ℕ → Found ℤ → FieldHead
-headWith code (got id e) = headAt code id e
-headWith code (refused why) = F.Refused why
+headWith row (got id e) = headAt row id e
+headWith row (refused why) = F.Refused why
 
 -- "Delta 0: an i16 id follows"
 unfoldable pub longAt : List ℕ → ℕ → ℕ → FieldHead
-longAt s code at = headWith code (readAt int16 s at)
+longAt s row at = headWith row (readAt int16 s at)
 
 -- messages
 abbrev pub toMessage : Found Message → MessageHead

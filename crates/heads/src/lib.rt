@@ -249,13 +249,13 @@ fn list_header(s: &[u8], place: Place, limits: TConfiguration) -> ListHead
     if s.len() <= at {
         return ListHead::Refused(types::END);
     }
-    let b = s[at];
-    match types::collection_u8_to_type(b % 16) {
+    let row = tables::list_row(s[at]);
+    match types::u8_to_type((row % 256) as u8) {
         TypeRead::Refused(why) => ListHead::Refused(why),
         TypeRead::Got(kind) => {
-            let high = b / 16;
-            if high < 15 {
-                return listed(kind, high as u32, at + 1, limits);
+            let count = row / 256;
+            if count < 15 {
+                return listed(kind, count, at + 1, limits);
             }
             match numbers::read_varint32(s, at + 1) {
                 Varint32::Refused(why) => ListHead::Refused(why),
@@ -336,33 +336,32 @@ pub fn read_map_begin(s: &[u8], place: Place, limits: TConfiguration) -> MapHead
     }
 }
 
-// A field's header, once its id is read: a bool's code, 1 or 2, is its value.
-fn headed(code: u8, id: FieldId, next: Place) -> FieldHead
-    requires { ⌜ 0 < code ⌝ }
-    ensures { λ r. ⌜ r ≡ headAt code (id .0) (next .0) ⌝ }
+// A field's header, once its id is read: a bool's row holds its value.
+fn headed(row: u32, id: FieldId, next: Place) -> FieldHead
+    ensures { λ r. ⌜ r ≡ headAt row (id .0) (next .0) ⌝ }
 {
-    if code < 3 {
-        return FieldHead::Bool(code == 1, id, next);
+    let kind = row % 256;
+    if kind < 3 {
+        return FieldHead::Bool(row / 65536 == 1, id, next);
     }
-    match types::u8_to_type(code) {
+    match types::u8_to_type(kind as u8) {
         TypeRead::Got(kind) => FieldHead::Value(kind, id, next),
         TypeRead::Refused(why) => FieldHead::Refused(why),
     }
 }
 
 // The long form: the id is written out behind the first byte.
-fn long_field(s: &[u8], at: usize, code: u8) -> FieldHead
-    requires { ⌜ 0 < code ⌝ }
-    ensures { λ r. ⌜ r ≡ longAt (now (s .entry)) code at ⌝ }
+fn long_field(s: &[u8], at: usize, row: u32) -> FieldHead
+    ensures { λ r. ⌜ r ≡ longAt (now (s .entry)) row at ⌝ }
 {
     match numbers::read_i16(s, at) {
-        Int16::Got(id, next) => headed(code, FieldId(id), Place(next)),
+        Int16::Got(id, next) => headed(row, FieldId(id), Place(next)),
         Int16::Refused(why) => FieldHead::Refused(why),
     }
 }
 
-// The short form is read here and the long one apart, so that the common case can be inlined. A bool's value goes along only with its whole
-// header: one that is refused leaves nothing behind.
+// The first byte's row in the table has type, delta and bool. The short form is read here and the long one apart, so that the common case
+// can be inlined. A bool's value goes along only with its whole header: one that is refused leaves nothing behind.
 pub fn read_field_begin(s: &[u8], place: Place, last: FieldId) -> FieldHead
     ensures { λ r. ⌜ r ≡ fieldAt (now (s .entry)) (last .0) (place .0) ⌝ }
 {
@@ -370,23 +369,23 @@ pub fn read_field_begin(s: &[u8], place: Place, last: FieldId) -> FieldHead
     if s.len() <= at {
         return FieldHead::Refused(types::END);
     }
-    let b = s[at];
-    let code = b % 16;
-    if code == 0 {
+    let row = tables::field_row(s[at]);
+    let kind = row % 256;
+    if kind == 0 {
         return FieldHead::Stop(Place(at + 1));
     }
-    if 13 < code {
+    if 13 < kind {
         return FieldHead::Refused(types::BAD_TYPE);
     }
-    let delta = b / 16;
+    let delta = row / 256 % 256;
     if delta == 0 {
-        return long_field(s, at + 1, code);
+        return long_field(s, at + 1, row);
     }
     let sum = (last.0 as i32) + (delta as i32);
     if 32767 < sum {
         return FieldHead::Refused(types::FIELD_ID);
     }
-    headed(code, FieldId(sum as i16), Place(at + 1))
+    headed(row, FieldId(sum as i16), Place(at + 1))
 }
 
 // Behind the two first bytes: the sequence number and the name.

@@ -1,4 +1,5 @@
 pub mod Daily
+pub mod Shorts
 pub mod Through
 pub mod Making
 pub mod Nesting

@@ -1,13 +1,15 @@
 -- What an export of the reader leaves: from the row's own numbers what the call answers for the state in the row. Assumes nothing.
-use mathlib.Core.Path.{_≡_, refl, sym, ap, _∙_}
+use mathlib.Core.Path.{_≡_, refl, sym, ap, subst, _∙_}
 use mathlib.Core.Bool.{Bool, true, false, cond}
 use mathlib.Core.List.{List}
 use Prim.Native.Nat.{ℕ, _+_, _-_, _/_, _%_, _≤_, min}
 use native.Mathlib.Omega.{arith}
 use borrow.Author.Needs.{sfits-of}
 use lib.Dec.{eqb, ltb}
-use lib.IntN.{ℤ, pos}
+use lib.IntN.{ℤ, pos, _+ℤ_}
 use lib.ListN.{length, getD, set, take}
+use mir.Syntax.{w8, w16, w32}
+use mir.Val.{Fits, SFits, toZ, ofZ}
 use mir.Facts.{toZ-ofZ}
 use Rattle.types.specs.Codes.{typeCode, messageCode, truthCode}
 use Rattle.types.specs.Refusals.{OUT-OF-TURN, BAD-STATE}
@@ -18,7 +20,7 @@ use Rattle.types.specs.declared.TConfiguration.{TConfiguration}
 use Rattle.types.specs.declared.TMessageType.{TMessageType}
 use Rattle.types.specs.declared.TType.{TType}
 use Rattle.types.specs.declared.TType.the-variants as T
-use Rattle.heads.specs.Answers.{place, idOf, int8At, int16At, int32At, int64At, doubleAt, truthAt, uuidAt, binaryAt, textAt, itemsHeadAt, pairsHeadAt, fieldAt, messageAt}
+use Rattle.heads.specs.Answers.{place, idOf, int8At, int16At, int32At, int64At, doubleAt, truthAt, uuidAt, binaryAt, textAt, itemsHeadAt, pairsHeadAt, fieldAt, headAt, messageAt}
 use Rattle.heads.specs.Reader.{missing}
 use Rattle.heads.specs.declared.BoolRead.{BoolRead}
 use Rattle.heads.specs.declared.BoolRead.the-variants as hB
@@ -69,6 +71,8 @@ use Rattle.output.specs.State.{leftOf}
 use Rattle.rows.specs.Row.{lastIn, turnOf, limitsOf, readerIn, writerIn, readerOf, readerAfter, awaitedNo}
 use Rattle.rows.specs.Reads.{ToldBool, ToldI8, ToldI16, ToldI32, ToldI64, ToldDouble, ToldPart, ToldList, ToldMap, ToldField, ToldMessage, ToldDone}
 use Rattle.rows.proofs.Cases.{reader-left}
+use Rattle.heads.proofs.Fields.{code-sum, id-is, id-wide, id-fits, delta-wide}
+use Rattle.host.specs.Short.{Entered, ShortRow}
 use Rattle.rows.proofs.Gate.{Open, reader-opens, reader-holds, reader-is, reader-free, reader-moves, reader-stays, reader-begins, reader-lasts, reader-awaits, reader-takes, reader-truth}
 
 -- what is read at the row's place, up to its cut, is read at the state's, up to the state's
@@ -351,6 +355,53 @@ module _ (s row : List ℕ) (num : ℕ) (e : num ≡ I.gate (length s) (readerOf
 pub done-through : (row row′ : List ℕ) (n : ℕ) (read want : ReadDone) → ToldDone row row′ n read → read ≡ want → ToldDone row row′ n want
 done-through row row′ n read want h e = rw e at h
 
+-- a field's header of one byte, whose row is n; the last id l passed through its bits
+module _ (s row : List ℕ) (end : ℕ) (passed : ℤ) (at n : ℕ) (short : ShortRow (take end s) passed at n) (l : ℤ) (b : passed ≡ l) (v : l ≡ lastIn (getD row 1 0)) (p : at ≡ getD row 0 0) (o : end ≡ getD row 0 0 + min (leftOf (writerIn row)) (length s - getD row 0 0)) (num : ℕ) (e : num ≡ I.gate (length s) (readerOf row)) (h : num ≡ 0) (k : ℕ) (id : ℤ) (row′ : List ℕ) (k′ : ℕ) where
+  x : ShortRow (take end s) l at n
+  x = subst (λ (i : ℤ). ShortRow (take end s) i at n) b short
+
+  unbarred : Open row
+  unbarred = reader-opens (length s) row num e h
+
+  pub short-ended : n % 256 ≡ 0 → k′ ≡ 0 → row′ ≡ set row 0 (at + 1) → ToldField row row′ k k′ id id 0 (call.readField s (readerOf row))
+  short-ended z a g =
+      field-ended row k id (call.readField s (readerOf row)) k′ (hF.Stop (place (at + 1))) (place (at + 1)) row′ refl
+      (field-stop s row num e h end o (hF.Stop (place (at + 1))) (rw (← v, ← p) (x .ends z)) (place (at + 1)) refl) unbarred a g
+
+  module _ (y : n % 256 ≡ 0 → ⊥) (z : n % 256 ≤ 13) where
+    headed-by : (id′ i : ℤ) (r : FieldHead) → r ≡ fieldAt (take end s) (lastIn (getD row 1 0)) (getD row 0 0) → Entered r row row′ k′ i → id′ ≡ i → ToldField row row′ k k′ id id′ 0 (call.readField s (readerOf row))
+    headed-by id′ i (hF.Stop q) f d u = absurd d
+    headed-by id′ i (hF.Bool t j q) f d u =
+        bool-headed row k id (call.readField s (readerOf row)) k′ (hF.Bool t j q) q row′ id′ j t (truthCode t) (j .0) refl refl (d .0) refl (u ∙ d .2) (d .1)
+        (field-bool s row num e h end o (hF.Bool t j q) f t j q refl) unbarred
+    headed-by id′ i (hF.Value t j q) f d u =
+        value-headed row k id (call.readField s (readerOf row)) k′ (hF.Value t j q) q row′ id′ j t (j .0) refl (d .0) refl (u ∙ d .2) (d .1)
+        (field-value s row num e h end o (hF.Value t j q) f t j q refl) unbarred
+    headed-by id′ i (hF.Refused why) f d u = absurd d
+
+    -- the id as it is after its sum, which passed through its bits
+    sum-is : SFits w16 l → toZ w32 (ofZ w32 (code-sum l (n / 256 % 256))) ≡ l +ℤ pos (n / 256 % 256)
+    sum-is hl = id-is l (n / 256 % 256) hl (x .delta)
+
+    pub short-headed : (id′ j : ℤ) → SFits w16 l → id′ ≡ toZ w32 (ofZ w32 (code-sum l (n / 256 % 256))) → j ≡ toZ w32 (ofZ w32 (code-sum l (n / 256 % 256))) → k′ ≡ n % 256 → row′ ≡ set (set row 0 (at + 1)) 1 (turnOf j (n / 65536)) → ToldField row row′ k k′ id id′ 0 (call.readField s (readerOf row))
+    short-headed id′ j hl u w a g =
+        headed-by id′ (l +ℤ pos (n / 256 % 256)) (headAt n (l +ℤ pos (n / 256 % 256)) (at + 1)) (rw (← v, ← p) (x .goes y z))
+        (rw (g, a, w ∙ sum-is hl) (x .holds y z row (l +ℤ pos (n / 256 % 256)) (at + 1)))
+        (u ∙ sum-is hl)
+
+-- the sum that the code makes
+pub short-sum : (s : List ℕ) (passed l : ℤ) (at n : ℕ) → ShortRow s passed at n → SFits w16 l → SFits w32 (code-sum l (n / 256 % 256))
+short-sum s passed l at n x hl = id-fits l (n / 256 % 256) hl (x .delta)
+
+pub short-fits : (s : List ℕ) (passed l : ℤ) (at n : ℕ) → ShortRow s passed at n → passed ≡ l → SFits w16 l → (n % 256 ≡ 0 → ⊥) → n % 256 ≤ 13 → SFits w16 (toZ w32 (ofZ w32 (code-sum l (n / 256 % 256))))
+short-fits s passed l at n x b hl y z = rw (id-is l (n / 256 % 256) hl (x .delta), ← b) (x .fits y z)
+
+pub short-truth : (s : List ℕ) (l : ℤ) (at n : ℕ) → ShortRow s l at n → Fits w8 (n / 65536)
+short-truth s l at n x = record { fits = omega (arith, x .truth) }
+
+pub short-delta : (s : List ℕ) (l : ℤ) (at n : ℕ) → ShortRow s l at n → SFits w32 (pos (n / 256 % 256))
+short-delta s l at n x = delta-wide (n / 256 % 256) (x .delta)
+
 pub ruleset gating = (reader-left, reader-opens, reader-stays, inside, counts, toZ-ofZ, sfits-of)
 
 pub ruleset i8-reads = (i8-kept, i8-told, i8-stopped, i8-got, i8-no, gating)
@@ -378,3 +429,5 @@ pub ruleset map-reads = (map-kept, map-told, map-stopped, map-got, map-no, gatin
 pub ruleset message-reads = (message-kept, message-told, message-stopped, message-got, message-no, cut-inside, cut-counts, gating)
 
 pub ruleset field-reads = (field-kept, field-ended, bool-headed, value-headed, field-stopped, field-stop, field-bool, field-value, field-no, gating)
+
+pub ruleset short-reads = (field-kept, field-stopped, short-ended, short-headed, short-fits, short-truth, short-sum, short-delta, id-wide, gating)

@@ -8,6 +8,7 @@ headed-spec =
     tie.close
     (tie.spec
     (λ c. search head-cases)
+    (λ c. search needs)
     (λ c κs. search needs)
     (λ c. search needs)
     (λ c. search needs)

@@ -9,6 +9,7 @@ read-field-begin-spec =
     (tie.spec
     (λ c. search field-cases)
     (λ c. search needs)
+    (λ c κs. search needs)
     (λ c. search needs)
     (λ c. search field-cases)
     (λ c. search field-cases)
@@ -16,7 +17,7 @@ read-field-begin-spec =
     (λ c κs. search needs)
     (λ c. search field-cases)
     (λ c. search field-cases)
-    (λ c. search field-cases)
+    (λ c. search needs)
     (λ c. search field-cases)
     (λ c. search field-cases)
     (λ c. search field-cases)

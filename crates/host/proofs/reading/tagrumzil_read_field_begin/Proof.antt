@@ -1,5 +1,5 @@
 use borrow.Author.Needs.{needs}
-use Rattle.host.proofs.Through.{field-reads}
+use Rattle.host.proofs.Through.{short-reads}
 use Rattle.host.proofs.reading.tagrumzil_read_field_begin.Statement.{statement}
 use Rattle.host.proofs.reading.tagrumzil_read_field_begin.Tie as tie
 
@@ -9,25 +9,29 @@ tagrumzil-read-field-begin-spec =
     (tie.spec
     (λ c κs. search needs)
     (λ c. search needs)
-    (λ c. search field-reads)
+    (λ c. search short-reads)
     (λ c κs. search needs)
-    (λ c. search field-reads)
-    (λ c κs. search needs)
-    (λ c. search needs)
-    (λ c κs. search needs)
-    (λ c. search needs)
     (λ c κs. search needs)
     (λ c κs. search needs)
     (λ c. search needs)
+    (λ c. search needs)
     (λ c κs. search needs)
+    (λ c. search short-reads)
     (λ c κs. search needs)
     (λ c. search needs)
     (λ c κs. search needs)
     (λ c. search needs)
-    (λ c. search field-reads)
+    (λ c. search short-reads)
+    (λ c κs. search needs)
     (λ c. search needs)
-    (λ c. search field-reads)
     (λ c. search needs)
-    (λ c. search field-reads)
+    (λ c. search short-reads)
     (λ c. search needs)
-    (λ c. search field-reads))
+    (λ c. search short-reads)
+    (λ c. search short-reads)
+    (λ c. search needs)
+    (λ c. search needs)
+    (λ c. search short-reads)
+    (λ c κs. search needs)
+    (λ c. search needs)
+    (λ c. search short-reads))
