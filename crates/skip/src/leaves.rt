@@ -61,8 +61,8 @@ fn skip_some(s: &[u8], at: usize, n: usize) -> Skipped
     Skipped::Done(Place(at + n))
 }
 
-// A varint of at most so many bytes.
-fn skip_varint(s: &[u8], at: usize, most: usize) -> Skipped
+// A varint of at most so many bytes, in a loop of its own, so that the short way below can stand in its callers.
+fn long_varint(s: &[u8], at: usize, most: usize) -> Skipped
     ensures { λ r. ⌜ r ≡ past (groups most) (now (s .entry)) at ⌝ }
 {
     let mut left = most;
@@ -78,6 +78,20 @@ fn skip_varint(s: &[u8], at: usize, most: usize) -> Skipped
         left = left - 1;
     }
     Skipped::Refused(types::LONG_VARINT)
+}
+
+// Most are of one byte.
+fn skip_varint(s: &[u8], at: usize, most: usize) -> Skipped
+    ensures { λ r. ⌜ r ≡ past (groups most) (now (s .entry)) at ⌝ }
+{
+    if 0 < most {
+        if at < s.len() {
+            if s[at] < 128 {
+                return Skipped::Done(Place(at + 1));
+            }
+        }
+    }
+    long_varint(s, at, most)
 }
 
 fn skip_bool(s: &[u8], at: Place) -> Skipped

@@ -1,30 +1,14 @@
 use borrow.Author.Needs.{needs}
-use mathlib.Core.Path.{_≡_, refl}
-use Rattle.numbers.specs.Varint.{groups}
-use Rattle.skip.specs.Skip.{past}
-use Rattle.skip.proofs.Leaf.{varint-cases}
+use Rattle.skip.proofs.Leaf.{varint-last}
 use Rattle.skip.proofs.leaves.skip_varint.Statement.{statement}
 use Rattle.skip.proofs.leaves.skip_varint.Tie as tie
-
-abbrev Inv-loop : tie.InvT-loop
-Inv-loop s at most left₀ p₀ left p = past (groups left) s p ≡ past (groups left₀) s p₀
-
-abbrev μ-loop : tie.MeasureT-loop
-μ-loop s at most left₀ p₀ left p = left
 
 pub skip-varint-spec : {M : Type 1} → statement M
 skip-varint-spec =
     tie.close
     (tie.spec
-    Inv-loop
-    μ-loop
-    (λ c. refl)
-    (λ c. search varint-cases)
     (λ c. search needs)
     (λ c. search needs)
-    (λ c. search varint-cases)
-    (λ c. search needs)
-    (λ c. search needs)
-    (λ c. search needs)
-    (λ c. search varint-cases)
-    (λ c. search varint-cases))
+    (λ c. search varint-last)
+    (λ c κs. search needs)
+    (λ c. search needs))
