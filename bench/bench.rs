@@ -198,6 +198,41 @@ fn line(what: &str, theirs: f64, ours: f64) {
     println!("| {what} | {:.1} | {:.1} | {:.2} |", theirs / 1000.0, ours / 1000.0, theirs / ours);
 }
 
+/// A frame of the announced length, in bursts of so many bytes.
+fn frame_takes(s: &[u8], burst: usize) -> port::Progress {
+    let mut skip = port::FrameSkip::announce(s.len(), port::TConfiguration::default());
+    let mut last = port::Progress::More;
+    for piece in s.chunks(burst) {
+        last = skip.take(piece);
+    }
+    last
+}
+
+/// Frames beside skip over the same bytes: in one burst, in bursts of 1,024 bytes, and byte by byte.
+fn frame_lines(trial: &[u8]) {
+    println!("\n| | skip, µs | frame in one burst, µs | times skip's | in bursts of 1,024, µs | byte by byte, ns a byte |\n|---|---|---|---|---|---|");
+    let in_field = |code: u8, list: Vec<u8>| [&[0x10 | code][..], &list, &[0]].concat();
+    let text = |n: usize| { let mut v = vec![0x18, n as u8 | 128, (n >> 7) as u8 | 128, (n >> 14) as u8 | 128, (n >> 21) as u8]; v.resize(v.len() + n + 1, 0); v };
+    for (what, s) in [
+        ("a struct of 1000 small i32 fields", struct_of(5)),
+        ("a trial of 2000 points of 3 doubles", trial.to_vec()),
+        ("a list of 100,000 one-byte i32", in_field(9, list_of(5))),
+        ("a struct of 1000 small i16 fields", struct_of(4)),
+        ("a list of 100,000 one-byte i16", in_field(9, list_of(4))),
+        ("a list of 100,000 i64 of all lengths", in_field(9, list_of_i64())),
+        ("a string of 1,000 bytes", text(1_000)),
+        ("a string of 1,000,000 bytes", text(1_000_000)),
+    ] {
+        assert_eq!(frame_takes(&s, 1), port::Progress::Done(s.len()));
+        assert_eq!(frame_takes(&s, s.len()), port::Progress::Done(s.len()));
+        let a = best(|| drop(black_box(port::skip(black_box(&s), port::TType::Struct))));
+        let b = best(|| drop(black_box(frame_takes(black_box(&s), s.len()))));
+        let c = best(|| drop(black_box(frame_takes(black_box(&s), 1024))));
+        let d = (0..5).map(|_| { let t = Instant::now(); drop(black_box(frame_takes(black_box(&s), 1))); t.elapsed().as_nanos() as f64 }).fold(f64::MAX, f64::min);
+        println!("| {what} | {:.2} | {:.2} | {:.2} | {:.1} | {:.1} |", a / 1000.0, b / 1000.0, b / a, c / 1000.0, d / s.len() as f64);
+    }
+}
+
 fn main() {
     let mut buffer = vec![0; 1 << 17];
     let n = port_writes(&mut buffer).unwrap();
@@ -232,4 +267,5 @@ fn main() {
     }
     line("reading the trial call by call", best(|| drop(black_box(crate_reads(black_box(&trial))))), best(|| drop(black_box(port_reads(black_box(&trial))))));
     line("writing it", best(|| drop(black_box(crate_writes(&mut theirs)))), best(|| drop(black_box(port_writes(&mut buffer)))));
+    frame_lines(&trial);
 }

@@ -356,6 +356,7 @@ fn skip_difference(s: &[u8], at: usize, limits: port::TConfiguration, t: usize, 
 struct Tally {
     read: [u64; 17],
     picked: u64,
+    framed: u64,
     wrote: BTreeMap<&'static str, u64>,
     differences: BTreeMap<&'static str, u64>,
     refusals: [u64; 20],
@@ -831,6 +832,62 @@ fn picks(t: &mut Tally, r: &mut Rng, s: &[u8], limits: port::TConfiguration) {
 
 const WIDE: port::TConfiguration = port::TConfiguration { depth: 64, string: i32::MAX as u32, container: i32::MAX as u32, message: i32::MAX as u32 };
 
+// ------------------------------------------------------------------ frames
+
+/// A frame's answer, the bytes handed over in bursts that end at these places; once it is final it stays, whatever bursts come.
+fn by_bursts(t: &mut Tally, s: &[u8], limits: port::TConfiguration, ends: impl Iterator<Item = usize>) -> A {
+    let mut skip = port::FrameSkip::announce(s.len(), limits);
+    let (mut last, mut from) = (skip.take(&[]), 0);
+    for end in ends.chain([s.len()]) {
+        let next = skip.take(&s[from..end]);
+        if last != port::Progress::More && last != next {
+            t.fail(format!("a final answer of a frame changed: {last:?}, {next:?} limits {limits:?} on {s:02x?}"));
+        }
+        (last, from) = (next, end);
+    }
+    t.framed += 1;
+    match last {
+        port::Progress::Done(used) => Ok((V::Unit, used)),
+        port::Progress::Refused(why) => Err(why.number()),
+        port::Progress::More => Err(0),
+    }
+}
+
+/// The crate's skip over a whole frame of the announced length, cut where the ceiling is, and the frame in bursts: all at once, one byte at a time, with empty bursts, in
+/// two halves at every place (at 40 of them in a long one), and anyhow. A known difference is looked for as in `reads`.
+fn frames(t: &mut Tally, r: &mut Rng, s: &[u8], limits: port::TConfiguration) {
+    let cut = cut_of(s, 0, limits);
+    let (seen, more, at) = (&s[..cut], cut < s.len(), Cell::new(0));
+    let a = by_crate(&mut TCompactInputProtocol::with_config(Tap(seen, &at), config(limits)), &at, Skip(11));
+    let n = s.len();
+    let b = by_bursts(t, s, limits, [].into_iter());
+    let mut ways = vec![by_bursts(t, s, limits, 1..n), by_bursts(t, s, limits, (0..n).flat_map(|i| [i, i]))];
+    let places: Vec<usize> = if n <= 40 { (0..=n).collect() } else { (0..40).map(|_| r.below(n as u64 + 1) as usize).collect() };
+    ways.extend(places.into_iter().map(|i| by_bursts(t, s, limits, [i].into_iter())));
+    let mut any: Vec<usize> = (0..r.below(9)).map(|_| r.below(n as u64 + 1) as usize).collect();
+    any.sort_unstable();
+    ways.push(by_bursts(t, s, limits, any.into_iter()));
+    if let Some(other) = ways.iter().find(|x| **x != b) {
+        t.fail(format!("cut otherwise, a frame answers {other:?}, not {b:?}: limits {limits:?} on {s:02x?}"));
+    }
+    let rule = broken(seen, 0, Skip(11), limits, 0);
+    if rule.map_or(b == Err(17), |why| b != Err(missing(why, more))) {
+        t.fail(format!("a frame, limits {limits:?} on {s:02x?}: the rule says {rule:?}, port {b:?}"));
+    }
+    let missed = b == Err(19) || more && b == Err(1);
+    let known = match rule {
+        _ if !missed && a == b => return,
+        _ if missed && a == Err(1) => Some("D30"),
+        Some(1) if missed => Some("D30"),
+        Some(why) if !missed => Some(ruled(why)),
+        _ => skip_difference(seen, 0, limits, 11, 0, &a, &if missed { Err(1) } else { b.clone() }),
+    };
+    match known {
+        Some(d) if !missed || more && b == Err(19) => t.difference(d),
+        _ => t.fail(format!("a frame, limits {limits:?} on {s:02x?}: crate {a:?}, port {b:?}")),
+    }
+}
+
 fn some_limits(r: &mut Rng) -> port::TConfiguration {
     let size = |r: &mut Rng| r.pick(&[0, 1, 2, 3, 14, 15, 16, 127, 128, 1000, 1 << 20, 0x7fff_fffe, 0x7fff_ffff]);
     let (string, container) = (size(r), size(r));
@@ -988,11 +1045,12 @@ fn main() {
         }
     }
     // random bytes, and whole messages, by each side, and damaged copies of them
-    let total = |t: &Tally| t.read.iter().sum::<u64>() + t.wrote.values().sum::<u64>() + t.picked;
+    let total = |t: &Tally| t.read.iter().sum::<u64>() + t.wrote.values().sum::<u64>() + t.picked + t.framed;
     while total(&t) < millions * 1_000_000 {
         let s: Vec<u8> = (0..r.below(12)).map(|_| if r.below(3) == 0 { r.pick(&[0, 1, 2, 0x7F, 0x80, 0xFF, 0x82, 0x21, 0x15, 0x1C, 0x19]) } else { r.next() as u8 }).collect();
         let limits = if r.below(2) == 0 { WIDE } else { some_limits(&mut r) };
         every_call(&mut t, &s, limits);
+        frames(&mut t, &mut r, &s, limits);
 
         let kind = r.pick(&[11, 11, 11, 8, 9, 10]);
         let value = tree(&mut r, kind, 4);
@@ -1024,6 +1082,8 @@ fn main() {
                     }
                     let limits = if i % 3 == 0 { some_limits(&mut r) } else { WIDE };
                     picks(&mut t, &mut r, &s, limits);
+                    if i == 8 { s.truncate(r.below(own.len() as u64) as usize) }
+                    if i % 2 == 0 { frames(&mut t, &mut r, &s, limits) }
                 }
             }
         }
@@ -1105,6 +1165,7 @@ fn main() {
         println!("write {n}: {k}");
     }
     println!("pick: {}", t.picked);
+    println!("frame in bursts: {}", t.framed);
     for (n, k) in t.refusals.iter().enumerate().filter(|x| *x.1 > 0) {
         println!("refused {n}: {k}");
     }

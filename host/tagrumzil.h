@@ -1,8 +1,9 @@
-/* Thrift's compact protocol: a reader, a writer, skip, a field picker and the day file over lent memory, each function proved to meet its contract.
+/* Thrift's compact protocol: a reader, a writer, skip, a field picker, the day file and frames over lent memory, each function proved to meet its contract.
  *
  * Link with target/staticlib/libhost.a, which `rt staticlib host` makes. It needs memcpy and memset, and nothing else.
  *
- * Every function answers 0, or the number of a refusal (the enum below). A refused call changes nothing that was lent to it, so it may be made again.
+ * Every function answers 0, or the number of a refusal (the enum below). A refused call changes nothing that was lent to it, so it may be made again; the
+ * calls of a frame alone keep a refusal, which is its answer.
  * An input or a buffer is a pointer and a length; any pointer will do with length 0. What a call writes through its pointers (value, kind, ..) is
  * written only where it answers 0, and the pointers must not be null. No two of the things lent to one call may overlap, a shared input apart.
  *
@@ -175,6 +176,34 @@ uint8_t tagrumzil_day_message(const uint8_t *file, size_t n, size_t k, size_t *s
 /* The file of m messages, which stand one behind the other in the k bytes, each up to its end, at the start of the output; and its length, 4m + 8 + k. BAD_DAY for
  * an empty message, more than 4096, a file of more than 4294967295 bytes, or ends that do not rise to k; then NO_ROOM. */
 uint8_t tagrumzil_write_day(uint8_t *out, size_t n, const uint8_t *bytes, size_t k, const size_t *ends, size_t m, size_t *length);
+
+/* ---- Frames from the radio: a skip of one struct whose bytes come in bursts, up to an announced length. It keeps no bytes of them.
+ *
+ * THE STATE of a frame is a row of TAGRUMZIL_FRAME numbers, lent to each call:
+ *   row[0]  how many bytes are left up to the cut, the smaller of the announced length and the ceiling
+ *   row[1]  how many were taken
+ *   row[2]  how many announced bytes lie behind the cut
+ *   row[3]  the limit on depth and the ceiling, row[4] those on strings and containers: as in a reader's row
+ *   row[5]  how many containers are open, 0 to 64
+ *   row[6]  how many bytes are passed over before the next one is looked at
+ *   row[7]  what then: 0 a field's header; 1 a bool; 2 a list's or set's header; 3 the types of a map of row[8] pairs; 4 the next group of a number; 5 one of at
+ *           most row[8] bytes of a number; 6 the struct ends, row[8] bytes on; 7 it is refused, by the number row[8]
+ *   row[9]  of form 4, what the number is for: 0 a bool field's id; 1 another field's, 2 a list's or set's count, both of type row[10]; 3 a map's count; 4 a
+ *           string's length; 5 an i16. Its groups so far are row[11] in number and row[8] in value
+ *   row[12 + 4i] to row[15 + 4i]  the container i, the outermost first. Form 0: a struct, the last id's 16 bits in the fourth number. Forms 1, 2, 3: so many
+ *           elements of a type, so many pairs, or a value and then so many pairs are to come; types in the second and third number, how many in the fourth
+ * A number that a form has no use for has no say, and stays as it is. A row of another length, or that holds what no frame's bytes lead to in these numbers, is
+ * TAGRUMZIL_BAD_STATE, and is left as it was. Any other refusal is the frame's final answer and is kept in the row, as its end is: further calls change nothing.
+ *
+ * A call answers TAGRUMZIL_MORE where it waits for more bytes; 0 where the struct has ended, with the bytes used in `*used`; else the refusal. */
+enum { TAGRUMZIL_FRAME = 268, TAGRUMZIL_MORE = 255 };
+
+/* A frame of an announced length, of which nothing has come: 0. BAD_STATE for a limit out of its range. */
+uint8_t tagrumzil_frame_announce(uint64_t *row, size_t m, size_t length, uint32_t depth, uint32_t string, uint32_t container, uint32_t message);
+/* A burst, which may be empty. Bytes past the announced length, or past the ceiling, are not taken. */
+uint8_t tagrumzil_frame_take(uint64_t *row, size_t m, const uint8_t *burst, size_t n, size_t *used);
+/* No more bytes come: END, unless the frame has its answer. */
+uint8_t tagrumzil_frame_close(uint64_t *row, size_t m, size_t *used);
 
 #ifdef __cplusplus
 }

@@ -15,5 +15,7 @@ pub mod Tests
 pub mod Sounds
 pub mod Calls
 pub mod Theorems
+pub mod Ground
+pub mod OneBurst
 pub mod Bursts
 pub mod Samples

@@ -49,7 +49,7 @@ found-stays (num.refused why) y s = s
 
 module _ (lim : TConfiguration) where
   -- bytes behind those that the plan knows of have no say
-  behind-none : (bs cs : List ℕ) → told (skipPlan lim (lim .depth) T.Struct (length bs)) (bs ++ cs) ≡ asTold (λ t. tt) (valueOf lim (lim .depth) T.Struct bs)
+  pub behind-none : (bs cs : List ℕ) → told (skipPlan lim (lim .depth) T.Struct (length bs)) (bs ++ cs) ≡ asTold (λ t. tt) (valueOf lim (lim .depth) T.Struct bs)
   unfolding Follows
   behind-none bs cs =
       let e = skip-follows lim (lim .depth) T.Struct bs in

@@ -3,13 +3,17 @@ use Prim.Native.Nat.{ℕ, zero, suc, _+_, _-_, _≤_, _<_, _^_}
 use mathlib.Core.Bool.{Bool, true, false, cond, _&&_}
 use mathlib.Core.List.{List, [], _∷_}
 use lib.Dec.{eqb, leb, ltb}
-use lib.IntN.{pos}
-use lib.ListN.{getD, length}
+use lib.IntN.{ℤ, pos, negsuc}
+use lib.ListN.{getD, length, take}
 use mathlib.Core.Path.{_≡_}
 use Rattle.types.specs.declared.TConfiguration.{TConfiguration}
 use Rattle.types.specs.Refusals.{END, BAD-TYPE, DEPTH, BAD-STATE, RANGE}
 use Rattle.heads.specs.Reader.{missing}
 use Rattle.heads.specs.Answers.{idOf}
+use Rattle.skip.specs.Skip.{skipOf}
+use Rattle.skip.specs.declared.Skipped.{Skipped}
+use Rattle.skip.specs.declared.Skipped.the-variants as K
+use Rattle.types.specs.declared.TType.the-variants as T
 use Rattle.frame.specs.declared.Nest.{Nest}
 use Rattle.frame.specs.declared.Nest.the-variants.{Fields, Items, Keys, Values}
 use Rattle.frame.specs.declared.Level.{Level}
@@ -127,6 +131,45 @@ ranTo p = running (p .left) (p .taken) (restOf (p .stand))
 
 unfoldable pub runOf : FrameSkip → Run
 runOf f = running (f .left) (f .taken) (restOf (f .stand))
+
+-- A FRAME IN ONE BURST
+
+-- a frame that nothing has come of: it waits for the first header of its struct
+abbrev pub isNone : ℤ → Bool
+isNone (pos zero) = true
+isNone (pos (suc n)) = false
+isNone (negsuc n) = false
+
+unfoldable pub isFirst : Nest → Bool
+isFirst (Fields id) = isNone (id .0)
+isFirst (Items t n) = false
+isFirst (Keys k v n) = false
+isFirst (Values k v n) = false
+
+unfoldable pub isHead : Now → Bool
+isHead (N.Asks W.Head) = true
+isHead (N.Asks W.Truth) = false
+isHead (N.Asks W.List) = false
+isHead (N.Asks (W.Types n)) = false
+isHead (N.Asks (W.Varint g p)) = false
+isHead (N.Asks (W.Number k)) = false
+isHead (N.Done n) = false
+isHead (N.Refused why) = false
+
+unfoldable pub isStart : ℕ → ℕ → Nest → Now → Bool
+isStart depth body top n = cond (eqb depth 1) (cond (eqb body 0) (cond (isHead n) (isFirst top) false) false) false
+
+-- the bytes that skip passes over, where the burst holds the whole frame and skip does not refuse it; else 0
+abbrev pub usedBy : Skipped → ℕ
+usedBy (K.Done p) = p .0
+usedBy (K.Refused why) = 0
+
+unfoldable pub wholeOf : TConfiguration → ℕ → List ℕ → ℕ
+wholeOf lim left bs = cond (ltb (length bs) left) 0 (usedBy (skipOf (take left bs) lim (lim .depth) T.Struct 0))
+
+-- where a struct has ended
+abbrev pub endsAt : List Level → Stand
+endsAt rows = record { levels = rows; depth = 0; body = 0; rest = record { 0 = N.Done 0 } }
 
 -- THE TESTS OF A STATE
 

@@ -12,6 +12,8 @@ use types::TConfiguration;
 use types::TType;
 use types::TypeRead;
 
+mod whole;
+
 // An open container and what of it is still to come: a struct's fields behind an id; so many elements; so many pairs; a value, then so
 // many pairs.
 pub enum Nest {
@@ -981,7 +983,7 @@ impl FrameSkip {
     {
         let limits = self.limits;
         let from = self.stand;
-        let done = run(limits, from, self.left, self.taken, burst);
+        let done = whole::run_from(limits, from, self.left, self.taken, burst);
         let stand = done.stand;
         let state = FrameSkip {
             limits,

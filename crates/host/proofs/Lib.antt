@@ -1,5 +1,6 @@
 pub mod Daily
 pub mod Shorts
+pub mod Framed
 pub mod Through
 pub mod Making
 pub mod Nesting

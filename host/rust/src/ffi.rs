@@ -53,4 +53,8 @@ extern "C" {
     pub fn tagrumzil_check_day(file: *const u8, n: usize, count: *mut usize) -> u8;
     pub fn tagrumzil_day_message(file: *const u8, n: usize, k: usize, start: *mut usize, end: *mut usize) -> u8;
     pub fn tagrumzil_write_day(out: *mut u8, n: usize, bytes: *const u8, k: usize, ends: *const usize, m: usize, length: *mut usize) -> u8;
+
+    pub fn tagrumzil_frame_announce(row: *mut u64, m: usize, length: usize, depth: u32, string: u32, container: u32, message: u32) -> u8;
+    pub fn tagrumzil_frame_take(row: *mut u64, m: usize, burst: *const u8, n: usize, used: *mut usize) -> u8;
+    pub fn tagrumzil_frame_close(row: *mut u64, m: usize, used: *mut usize) -> u8;
 }

@@ -26,6 +26,7 @@
 
 mod day;
 mod ffi;
+mod frame;
 mod number;
 mod reader;
 mod refusal;
@@ -33,6 +34,7 @@ mod types;
 mod writer;
 
 pub use day::{write_day, Day, DayWriter, Messages};
+pub use frame::{FrameSkip, Progress};
 pub use number::{i32_to_zigzag, i64_to_zigzag, read_i16, read_le64, read_varint32, read_varint64, varint_len, write_varint, zigzag_to_i32, zigzag_to_i64};
 pub use reader::{skip, Picked, TCompactInputProtocol};
 pub use refusal::Refusal;

@@ -1,0 +1,4 @@
+pub mod Cases
+pub mod Puts
+pub mod Back
+pub mod Carried
