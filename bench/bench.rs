@@ -265,6 +265,16 @@ fn main() {
         assert_eq!(ours(&s), Ok(theirs(&s).unwrap()));
         line(what, best(|| drop(black_box(theirs(black_box(&s))))), best(|| drop(black_box(ours(black_box(&s))))));
     }
+    // Why it is refused: nothing, or a byte of its last point. The crate has no such call; beside it stands its skip.
+    let mut damaged = trial.clone();
+    let at = damaged.len() - 11;
+    damaged[at] = 0x1E;
+    let why = |s: &[u8]| port::TCompactInputProtocol::new(s).why();
+    assert_eq!((why(&trial), why(&damaged).map(|fault| fault.offset())), (None, Some(at)));
+    for (what, s) in [("why the trial is refused: it is not", &trial), ("why the trial is refused: a field of its last point", &damaged)] {
+        let a = best(|| drop(black_box(TCompactInputProtocol::new(black_box(&s[..])).skip(TType::Struct))));
+        line(what, a, best(|| drop(black_box(why(black_box(s))))));
+    }
     line("reading the trial call by call", best(|| drop(black_box(crate_reads(black_box(&trial))))), best(|| drop(black_box(port_reads(black_box(&trial))))));
     line("writing it", best(|| drop(black_box(crate_writes(&mut theirs)))), best(|| drop(black_box(port_writes(&mut buffer)))));
     frame_lines(&trial);

@@ -357,6 +357,7 @@ struct Tally {
     read: [u64; 17],
     picked: u64,
     framed: u64,
+    asked: u64,
     wrote: BTreeMap<&'static str, u64>,
     differences: BTreeMap<&'static str, u64>,
     refusals: [u64; 20],
@@ -828,6 +829,40 @@ fn picks(t: &mut Tally, r: &mut Rng, s: &[u8], limits: port::TConfiguration) {
     }
 }
 
+// ------------------------------------------------------------------ why
+
+/// Why the struct at the input's start is refused: with skip's number, which `reads` holds against the crate's, or not at all. Other bytes behind the offset, the length kept, change neither number,
+/// offset nor path; cut anywhere up to the offset, a byte is missed, by both sides.
+fn whys(t: &mut Tally, r: &mut Rng, s: &[u8], limits: port::TConfiguration) {
+    t.asked += 1;
+    let reader = port::TCompactInputProtocol::with_config(s, limits);
+    reads(t, s, limits, &mut once(Skip(11)));
+    let fault = reader.why();
+    if fault.map_or(Ok(()), |f| Err(f.refusal())) != reader.clone().skip(port::TType::Struct) {
+        t.fail(format!("limits {limits:?} on {s:02x?}: {fault:?}, and skip says otherwise"));
+    }
+    let Some(fault) = fault else { return };
+    let offset = fault.offset();
+    if offset > cut_of(s, 0, limits) || fault.path().len() > limits.depth as usize {
+        t.fail(format!("limits {limits:?} on {s:02x?}: {fault:?}, out of the input or too deep"));
+    }
+    let mut other = s.to_vec();
+    other.iter_mut().skip(offset + 1).for_each(|b| *b = r.next() as u8);
+    let again = port::TCompactInputProtocol::with_config(&other, limits).why();
+    if again != Some(fault) {
+        t.fail(format!("limits {limits:?}: {fault:?} on {s:02x?}, {again:?} on {other:02x?}"));
+    }
+    // Where there is no room for the struct itself, no byte is read.
+    if limits.depth > 0 {
+        let part = &s[..r.below(offset as u64 + 1) as usize];
+        reads(t, part, limits, &mut once(Skip(11)));
+        let short = port::TCompactInputProtocol::with_config(part, limits).skip(port::TType::Struct);
+        if short != Err(port::Refusal::END) {
+            t.fail(format!("limits {limits:?}: {fault:?} on {s:02x?}, {short:?} on its first {}", part.len()));
+        }
+    }
+}
+
 // ------------------------------------------------------------------ the run
 
 const WIDE: port::TConfiguration = port::TConfiguration { depth: 64, string: i32::MAX as u32, container: i32::MAX as u32, message: i32::MAX as u32 };
@@ -1045,12 +1080,13 @@ fn main() {
         }
     }
     // random bytes, and whole messages, by each side, and damaged copies of them
-    let total = |t: &Tally| t.read.iter().sum::<u64>() + t.wrote.values().sum::<u64>() + t.picked + t.framed;
+    let total = |t: &Tally| t.read.iter().sum::<u64>() + t.wrote.values().sum::<u64>() + t.picked + t.framed + t.asked;
     while total(&t) < millions * 1_000_000 {
         let s: Vec<u8> = (0..r.below(12)).map(|_| if r.below(3) == 0 { r.pick(&[0, 1, 2, 0x7F, 0x80, 0xFF, 0x82, 0x21, 0x15, 0x1C, 0x19]) } else { r.next() as u8 }).collect();
         let limits = if r.below(2) == 0 { WIDE } else { some_limits(&mut r) };
         every_call(&mut t, &s, limits);
         frames(&mut t, &mut r, &s, limits);
+        whys(&mut t, &mut r, &s, limits);
 
         let kind = r.pick(&[11, 11, 11, 8, 9, 10]);
         let value = tree(&mut r, kind, 4);
@@ -1084,6 +1120,10 @@ fn main() {
                     picks(&mut t, &mut r, &s, limits);
                     if i == 8 { s.truncate(r.below(own.len() as u64) as usize) }
                     if i % 2 == 0 { frames(&mut t, &mut r, &s, limits) }
+                    if i % 2 == 0 {
+                        s.truncate(r.below(s.len() as u64 + 1) as usize + 1);
+                    }
+                    whys(&mut t, &mut r, &s, limits);
                 }
             }
         }
@@ -1166,6 +1206,7 @@ fn main() {
     }
     println!("pick: {}", t.picked);
     println!("frame in bursts: {}", t.framed);
+    println!("why: {}", t.asked);
     for (n, k) in t.refusals.iter().enumerate().filter(|x| *x.1 > 0) {
         println!("refused {n}: {k}");
     }

@@ -134,6 +134,15 @@ uint8_t tagrumzil_skip(const uint8_t *s, size_t n, uint64_t *row, size_t m, uint
 enum { TAGRUMZIL_ABSENT = 0, TAGRUMZIL_WRONG_TYPE = 1, TAGRUMZIL_HERE = 2, TAGRUMZIL_FALSE = 3, TAGRUMZIL_TRUE = 4 };
 uint8_t tagrumzil_pick(const uint8_t *s, size_t n, uint64_t *row, size_t m, const int16_t *wanted, size_t k, const uint8_t *kinds, size_t j, size_t *found, size_t i);
 
+/* Where and why a skip of the struct at the reader's place is refused. It answers as that skip would, 0 or the number, and whatever it answers writes *offset and
+ * *steps. At 0: the place behind the struct, and no steps. Else the offset, in the input, of the last byte that was read before the refusal: the reader's place where
+ * none was, the input's end (or where the ceiling ends it) where a single byte was missing; a double, a uuid or a string's bytes cut short count as unread. The path to it
+ * stands in (path, j), from outside in, two numbers for each of its steps: TAGRUMZIL_FIELD and a field's id, TAGRUMZIL_ELEMENT, TAGRUMZIL_KEY or TAGRUMZIL_VALUE and a
+ * number from 0. What stands behind them stays. TAGRUMZIL_PATH numbers are always enough; where there is no room for the path, TAGRUMZIL_NO_ROOM, at the reader's
+ * place. TAGRUMZIL_BAD_STATE and TAGRUMZIL_OUT_OF_TURN are at the reader's place too. The row does not move. */
+enum { TAGRUMZIL_FIELD = 0, TAGRUMZIL_ELEMENT = 1, TAGRUMZIL_KEY = 2, TAGRUMZIL_VALUE = 3, TAGRUMZIL_PATH = 128 };
+uint8_t tagrumzil_why(const uint8_t *s, size_t n, const uint64_t *row, size_t m, int64_t *path, size_t j, size_t *offset, size_t *steps);
+
 /* ---- The writer. (buf, n) is the buffer, (row, m) the state. A refused call has written nothing. */
 
 /* A message's header. The name is UTF-8 and within the limit on strings. The message is counted from the header's first byte. */

@@ -1,6 +1,7 @@
-// A day's messages in one file: `day list FILE` has a line for each message, `day get FILE K` writes message K as it is, `day pack FILE..`
-// puts messages that stand in files of their own into one day file. The work is the libraries'; here are the arguments, the files and the
-// buffers. What is refused is said on standard error, and nothing is written then.
+// A day's messages in one file: `day list FILE` has a line for each message, `day fault FILE` has one that says whether the message is
+// good, and where and why it is not, `day get FILE K` writes message K as it is, `day pack FILE..` puts messages that stand in files of
+// their own into one day file. The work is the libraries'; here are the arguments, the files and the buffers. What is refused is said
+// on standard error, and nothing is written then.
 use days::Checked;
 use libc::STDERR_FILENO;
 use libc::STDOUT_FILENO;
@@ -99,9 +100,17 @@ fn load(path: &[u8], buf: &mut [u8]) -> usize
     n
 }
 
+// The line of message k: its header, or whether it is good.
+fn line_of(file: &[u8], k: usize, line: &mut [u8], is_fault: bool) -> usize {
+    if is_fault {
+        return fault_lines::put_day_fault(line, 0, file, k);
+    }
+    day_lines::put_line(line, 0, file, k)
+}
+
 // One line; whether it was written. One that fills the buffer may have been cut off, and is not written.
-fn list_line(file: &[u8], k: usize, line: &mut [u8]) -> bool {
-    let n = day_lines::put_line(line, 0, file, k);
+fn list_line(file: &[u8], k: usize, line: &mut [u8], is_fault: bool) -> bool {
+    let n = line_of(file, k, line, is_fault);
     if line.len() <= n {
         complain(b"a line", b" does not fit\n");
         return false;
@@ -110,11 +119,11 @@ fn list_line(file: &[u8], k: usize, line: &mut [u8]) -> bool {
     put_out(&line[..e])
 }
 
-fn list_lines(file: &[u8], count: usize) {
+fn list_lines(file: &[u8], count: usize, is_fault: bool) {
     let mut line = line_room();
     let mut k: usize = 0;
     while k < count {
-        let is_written = list_line(file, k, &mut line);
+        let is_written = list_line(file, k, &mut line, is_fault);
         if !is_written {
             return;
         }
@@ -122,9 +131,9 @@ fn list_lines(file: &[u8], count: usize) {
     }
 }
 
-fn list(path: &[u8], file: &[u8]) {
+fn list(path: &[u8], file: &[u8], is_fault: bool) {
     match days::check_day(file) {
-        Checked::Count(count) => list_lines(file, count),
+        Checked::Count(count) => list_lines(file, count, is_fault),
         Checked::Refused(_) => complain(path, b": refused 18, no day file\n"),
     }
 }
@@ -269,7 +278,7 @@ fn is_same(a: &[u8], b: &[u8]) -> bool {
     true
 }
 
-// `list` and `get`: the file is the second argument.
+// `list`, `fault` and `get`: the file is the second argument.
 fn look(verb: &[u8], bytes: &mut [u8]) {
     let mut path = io::buffer();
     let k = word(2, &mut path);
@@ -281,7 +290,11 @@ fn look(verb: &[u8], bytes: &mut [u8]) {
         return;
     }
     if is_same(verb, b"list") {
-        list(&path[..k], &bytes[..n]);
+        list(&path[..k], &bytes[..n], false);
+        return;
+    }
+    if is_same(verb, b"fault") {
+        list(&path[..k], &bytes[..n], true);
         return;
     }
     let mut digits = io::buffer();
@@ -303,11 +316,18 @@ fn run(verb: &[u8], files: usize) {
         look(verb, &mut bytes);
         return;
     }
+    if is_same(verb, b"fault") {
+        look(verb, &mut bytes);
+        return;
+    }
     if is_same(verb, b"get") {
         look(verb, &mut bytes);
         return;
     }
-    complain(b"list FILE", b" | get FILE NUMBER | pack FILE...\n");
+    complain(
+        b"list FILE",
+        b" | fault FILE | get FILE NUMBER | pack FILE...\n",
+    );
 }
 
 fn files_named() -> usize {

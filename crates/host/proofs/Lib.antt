@@ -6,4 +6,5 @@ pub mod Making
 pub mod Nesting
 pub mod Bared
 pub mod Picked
+pub mod Told
 pub mod Whole

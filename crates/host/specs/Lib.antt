@@ -1,3 +1,4 @@
 pub mod Bare
 pub mod Day
 pub mod Short
+pub mod Fault

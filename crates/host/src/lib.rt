@@ -2,6 +2,7 @@
 mod bare;
 mod day;
 mod frames;
+mod fault;
 mod nested;
 mod picking;
 mod reading;

@@ -32,6 +32,8 @@ extern "C" {
     pub fn tagrumzil_skip(s: *const u8, n: usize, row: *mut u64, m: usize, kind: u8) -> u8;
     pub fn tagrumzil_pick(s: *const u8, n: usize, row: *mut u64, m: usize, wanted: *const i16, k: usize, kinds: *const u8, j: usize, found: *mut usize, i: usize) -> u8;
 
+    pub fn tagrumzil_why(s: *const u8, n: usize, row: *const u64, m: usize, path: *mut i64, j: usize, offset: *mut usize, steps: *mut usize) -> u8;
+
     pub fn tagrumzil_write_message_begin(buf: *mut u8, n: usize, row: *mut u64, m: usize, kind: u8, sequence: i32, name: *const u8, k: usize) -> u8;
     pub fn tagrumzil_write_struct_begin(buf: *mut u8, n: usize, row: *mut u64, m: usize, ids: *mut i16, k: usize) -> u8;
     pub fn tagrumzil_write_struct_end(buf: *mut u8, n: usize, row: *mut u64, m: usize, ids: *const i16, k: usize) -> u8;

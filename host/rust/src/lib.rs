@@ -25,6 +25,7 @@
 #![warn(missing_docs)]
 
 mod day;
+mod fault;
 mod ffi;
 mod frame;
 mod number;
@@ -35,6 +36,7 @@ mod writer;
 
 pub use day::{write_day, Day, DayWriter, Messages};
 pub use frame::{FrameSkip, Progress};
+pub use fault::{Fault, Step};
 pub use number::{i32_to_zigzag, i64_to_zigzag, read_i16, read_le64, read_varint32, read_varint64, varint_len, write_varint, zigzag_to_i32, zigzag_to_i64};
 pub use reader::{skip, Picked, TCompactInputProtocol};
 pub use refusal::Refusal;

@@ -49,6 +49,10 @@ impl<'a> TCompactInputProtocol<'a> {
         &self.input[self.place()..]
     }
 
+    pub(crate) fn input_and_row(&self) -> (&'a [u8], &[u64; ROW]) {
+        (self.input, &self.row)
+    }
+
     // A type that was read has its number, by the call's contract: what stands at the others is never looked at.
     #[inline]
     fn kind(number: u8) -> TType {
