@@ -77,7 +77,7 @@ static inline void tagrumzil_default_row(uint64_t row[TAGRUMZIL_ROW])
     tagrumzil_row(row, 64, 104857600, 2147483647, 104857600);
 }
 
-/* ---- Numbers, which need no state. `*end` is the place behind what was read or written. */
+/* ---- Numbers, which need no state. `*end` is the place behind what was read or written. A place past the end, at > n, is BAD_STATE. */
 
 /* A varint of 32 bits, and of 64, at a place. Longer forms than needed are read; bits past the width are dropped. END, LONG_VARINT. */
 uint8_t tagrumzil_varint32(const uint8_t *s, size_t n, size_t at, uint32_t *value, size_t *end);

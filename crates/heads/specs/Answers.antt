@@ -1,4 +1,5 @@
--- What the calls answer, as the declared enums, from what the readers find at a place. Assumes nothing: these are definitions.
+-- What the calls answer, as the declared enums, from what the readers find at a place. Inner vocabulary, for functions behind these alone: `someAt`, `countWhy`,
+-- `listedAt`, `itemsAt`, `mappedAt`, `pairsAt`, `headAt`, `longAt`, `namedAt`, `kindAt`. Assumes nothing: these are definitions.
 use Prim.Native.Nat.{ℕ, _-_}
 use mathlib.Core.Bool.{Bool}
 use mathlib.Core.List.{List, []}

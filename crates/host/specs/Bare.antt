@@ -1,9 +1,13 @@
 -- What the number calls leave with their caller: `w′` is behind the call what w was before it. Assumes nothing: these are definitions.
 use Prim.Native.Nat.{ℕ}
 use mathlib.Core.Path.{_≡_}
+use mathlib.Core.Bool.{cond}
 use mathlib.Core.List.{List}
+use lib.Dec.{leb}
 use lib.IntN.{ℤ}
-use Rattle.numbers.specs.Answers.{wroteAt, putAt}
+use lib.ListN.{length}
+use Rattle.types.specs.Refusals.{BAD-STATE}
+use Rattle.numbers.specs.Answers.{varint32At, varint64At, signed16At, bits64At, wroteAt, putAt}
 use Rattle.numbers.specs.declared.Varint32.{Varint32}
 use Rattle.numbers.specs.declared.Varint32.the-variants as V32
 use Rattle.numbers.specs.declared.Varint64.{Varint64}
@@ -14,6 +18,22 @@ use Rattle.numbers.specs.declared.Bits64.{Bits64}
 use Rattle.numbers.specs.declared.Bits64.the-variants as B64
 use Rattle.numbers.specs.declared.Wrote.{Wrote}
 use Rattle.numbers.specs.declared.Wrote.the-variants as W
+
+-- "a place past the buffer's end" is BAD STATE, before what the input shows
+unfoldable pub placed32 : List ℕ → ℕ → Varint32
+placed32 s at = cond (leb at (length s)) (varint32At s at) (V32.Refused BAD-STATE)
+
+unfoldable pub placed64 : List ℕ → ℕ → Varint64
+placed64 s at = cond (leb at (length s)) (varint64At s at) (V64.Refused BAD-STATE)
+
+unfoldable pub placed16 : List ℕ → ℕ → Int16
+placed16 s at = cond (leb at (length s)) (signed16At s at) (I16.Refused BAD-STATE)
+
+unfoldable pub placedBits : List ℕ → ℕ → Bits64
+placedBits s at = cond (leb at (length s)) (bits64At s at) (B64.Refused BAD-STATE)
+
+unfoldable pub placedPut : List ℕ → ℕ → List ℕ → Wrote
+placedPut buf at bs = cond (leb at (length buf)) (wroteAt buf at bs) (W.Refused BAD-STATE)
 
 -- the number, 0 for none; what was found, and the place behind it
 abbrev pub number32 : Varint32 → ℕ
@@ -95,8 +115,8 @@ abbrev pub endWrote : ℕ → Wrote → ℕ
 endWrote old (W.To p) = p
 endWrote old (W.Refused why) = old
 
--- and of the bytes written at a place: NO ROOM, or they stand there
+-- and of the bytes written at a place: BAD STATE, NO ROOM, or they stand there
 pub record PutNumber (buf buf′ : List ℕ) (end end′ n at : ℕ) (bs : List ℕ) : Type 0 where
-  pub number : n ≡ numberWrote (wroteAt buf at bs)
-  pub the-end : end′ ≡ endWrote end (wroteAt buf at bs)
+  pub number : n ≡ numberWrote (placedPut buf at bs)
+  pub the-end : end′ ≡ endWrote end (placedPut buf at bs)
   pub the-buf : buf′ ≡ putAt buf at bs

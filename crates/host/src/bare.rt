@@ -1,10 +1,9 @@
-// The number calls, which need no state.
+// The number calls, which need no state. A place past the buffer's end is BAD STATE.
 ghost use mathlib.Core.Path.{_≡_};
 ghost use lib.ListN.{length};
 ghost use Rattle.numbers.specs.Varint.{fewest};
 ghost use Rattle.zigzag.specs.Zigzag.{zigzag, unzigzag};
-ghost use Rattle.numbers.specs.Answers.{varint32At, varint64At, signed16At, bits64At};
-ghost use Rattle.host.specs.Bare.{Found32, Found64, Found16, FoundBits, PutNumber};
+ghost use Rattle.host.specs.Bare.{placed32, placed64, placed16, placedBits, Found32, Found64, Found16, FoundBits, PutNumber};
 use numbers::Bits64;
 use numbers::Int16;
 use numbers::Varint32;
@@ -14,8 +13,11 @@ use numbers::Wrote;
 // The varint at a place of the input, and the place behind it.
 #[no_mangle]
 pub extern "C" fn tagrumzil_varint32(s: &[u8], at: usize, value: &mut u32, end: &mut usize) -> u8
-    ensures { λ r. ⌜ Found32 (now (value .entry)) (now (value .exit)) (now (end .entry)) (now (end .exit)) r (varint32At (now (s .entry)) at) ⌝ }
+    ensures { λ r. ⌜ Found32 (now (value .entry)) (now (value .exit)) (now (end .entry)) (now (end .exit)) r (placed32 (now (s .entry)) at) ⌝ }
 {
+    if s.len() < at {
+        return types::BAD_STATE;
+    }
     match numbers::read_varint32(s, at) {
         Varint32::Got(v, p) => {
             *value = v;
@@ -28,8 +30,11 @@ pub extern "C" fn tagrumzil_varint32(s: &[u8], at: usize, value: &mut u32, end: 
 
 #[no_mangle]
 pub extern "C" fn tagrumzil_varint64(s: &[u8], at: usize, value: &mut u64, end: &mut usize) -> u8
-    ensures { λ r. ⌜ Found64 (now (value .entry)) (now (value .exit)) (now (end .entry)) (now (end .exit)) r (varint64At (now (s .entry)) at) ⌝ }
+    ensures { λ r. ⌜ Found64 (now (value .entry)) (now (value .exit)) (now (end .entry)) (now (end .exit)) r (placed64 (now (s .entry)) at) ⌝ }
 {
+    if s.len() < at {
+        return types::BAD_STATE;
+    }
     match numbers::read_varint64(s, at) {
         Varint64::Got(v, p) => {
             *value = v;
@@ -43,8 +48,11 @@ pub extern "C" fn tagrumzil_varint64(s: &[u8], at: usize, value: &mut u64, end: 
 // An i16 at a place of the input: a 32-bit zigzag number, within the range of 16 bits.
 #[no_mangle]
 pub extern "C" fn tagrumzil_i16(s: &[u8], at: usize, value: &mut i16, end: &mut usize) -> u8
-    ensures { λ r. ⌜ Found16 (now (value .entry)) (now (value .exit)) (now (end .entry)) (now (end .exit)) r (signed16At (now (s .entry)) at) ⌝ }
+    ensures { λ r. ⌜ Found16 (now (value .entry)) (now (value .exit)) (now (end .entry)) (now (end .exit)) r (placed16 (now (s .entry)) at) ⌝ }
 {
+    if s.len() < at {
+        return types::BAD_STATE;
+    }
     match numbers::read_i16(s, at) {
         Int16::Got(v, p) => {
             *value = v;
@@ -58,8 +66,11 @@ pub extern "C" fn tagrumzil_i16(s: &[u8], at: usize, value: &mut i16, end: &mut 
 // The bits of the eight bytes at a place of the input, lowest first.
 #[no_mangle]
 pub extern "C" fn tagrumzil_le64(s: &[u8], at: usize, value: &mut u64, end: &mut usize) -> u8
-    ensures { λ r. ⌜ FoundBits (now (value .entry)) (now (value .exit)) (now (end .entry)) (now (end .exit)) r (bits64At (now (s .entry)) at) ⌝ }
+    ensures { λ r. ⌜ FoundBits (now (value .entry)) (now (value .exit)) (now (end .entry)) (now (end .exit)) r (placedBits (now (s .entry)) at) ⌝ }
 {
+    if s.len() < at {
+        return types::BAD_STATE;
+    }
     match numbers::read_le64(s, at) {
         Bits64::Got(v, p) => {
             *value = v;
@@ -75,6 +86,9 @@ pub extern "C" fn tagrumzil_le64(s: &[u8], at: usize, value: &mut u64, end: &mut
 pub extern "C" fn tagrumzil_put_varint(buf: &mut [u8], at: usize, n: u64, end: &mut usize) -> u8
     ensures { λ r. ⌜ PutNumber (now (buf .entry)) (now (buf .exit)) (now (end .entry)) (now (end .exit)) r at (fewest n) ⌝ }
 {
+    if buf.len() < at {
+        return types::BAD_STATE;
+    }
     match numbers::write_varint64(buf, at, n) {
         Wrote::To(p) => {
             *end = p;

@@ -148,7 +148,7 @@ message-trip lim ok depth plan m z name fs hw w x buf st r sd h c =
           backs lim depth (λ s. readWhole s plan) (m, z .0, name, readable (val.struct fs)) input.begunHere (λ rd. idOf (pos 0)) (λ rd. refl) (begunHere st) (writeWhole plan m z name fs) (bytesOfWhole m z name fs) buf st f
           (λ s rest rd rr e.
           read-whole s (cutHere rd) lim (in-range lim ok) plan (m, z .0, name) (readableFields fs) (lim .depth - depth) depth (messageBytes m (z .0) name) (bytesOf (val.struct fs)) (bytesOfWhole m z name fs) rest rd
-          (whole (message lim) (m, z .0, name) (messageBytes m (z .0) name) (message-reads lim m (z .0) name (hw .number) (hw .short) ok (hw .text)))
+          (whole (message lim) (m, z .0, name) (messageBytes m (z .0) name) (message-reads lim m (z .0) name (hw .number) (omega (arith, hw .short)) ok (hw .text)))
           (spelt lim ok (val.struct fs) (lim .depth - depth) (omega (arith, w .nested)) (w .sized) (w .typed)) (texts-readable plan (val.struct fs) x) refl
           (is-fine s (input.cutOf rd) lim (in-range lim ok) depth rd rr (omega (arith, w .nested))) (ready-anew s (input.cutOf rd) lim depth rd rr) (omega (arith, w .nested)) e);
     }

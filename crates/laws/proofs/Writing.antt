@@ -455,7 +455,7 @@ module _ (lim : TConfiguration) (ok : Ranged lim) where
       let hs : List ℕ = messageBytes m (z .0) name in
       let bs : List ℕ = bytesOf (val.struct fs) in
       let wrong : ℕ = inTurn st (textWrong (st .limits) name) in
-      let right : wrong ≡ 0 = free-turn st (textWrong (st .limits) name) (r .free) ∙ text-right (st .limits) name (rw (r .lims) (h .short)) (h .text) in
+      let right : wrong ≡ 0 = free-turn st (textWrong (st .limits) name) (r .free) ∙ text-right (st .limits) name (omega (arith, h .short, ap (λ (l : TConfiguration). l .string) (r .lims))) (h .text) in
       let mid : State = movedTo (begunHere st) (st .place .0 + length hs) in
       let k : Kept (begunHere st) mid (length hs) = record { there = refl; begins = refl; deep = refl; lims = refl; long = refl; below = λ i h. refl } in
       let g = wrote plan (val.struct fs) depth mid (record { lims = r .lims; deep = r .deep; ids = r .ids; free = r .free }) (w .nested) (w .sized) (w .typed) x in

@@ -1,3 +1,4 @@
 pub mod Varint
 pub mod Fixed
 pub mod Answers
+pub mod Numbers

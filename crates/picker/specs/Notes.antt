@@ -1,4 +1,4 @@
--- What the inner steps leave in the lent rows: the contracts of the functions behind the call. What these make of a whole struct is proved to be
+-- Inner vocabulary; no promise cites it. What the inner steps leave in the lent rows: the contracts of the functions behind the call. What these make of a whole struct is proved to be
 -- `rowsOf`. Assumes nothing: these are definitions.
 use Prim.Native.Nat.{ℕ, zero, suc, _+_, _*_}
 use mathlib.Core.Bool.{Bool, cond}

@@ -1,3 +1,4 @@
 pub mod Telling
 pub mod Value
 pub mod Printing
+pub mod Numbers

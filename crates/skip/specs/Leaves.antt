@@ -1,4 +1,5 @@
--- Values that hold no other, many at a time: what their passing over comes to. Assumes nothing: these are definitions.
+-- Inner vocabulary, for the contracts of functions behind skip alone; no promise cites it. Values that hold no other, many at a time: what their passing
+-- over comes to. Assumes nothing: these are definitions.
 use Prim.Native.Nat.{ℕ, zero, suc, _+_, _%_, _≤_}
 use mathlib.Core.Path.{_≡_}
 use mathlib.Core.Bool.{Bool, true, false, cond, _&&_}

@@ -2,3 +2,4 @@ pub mod Walk
 pub mod Value
 pub mod Skip
 pub mod Leaves
+pub mod Numbers

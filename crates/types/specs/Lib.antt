@@ -2,3 +2,4 @@ pub mod Refusals
 pub mod Codes
 pub mod Limits
 pub mod Value
+pub mod Numbers

@@ -1,4 +1,4 @@
-//! The bare numbers. Each read answers the value and the place behind it.
+//! The bare numbers. Each read answers the value and the place behind it; a place past the end is BAD_STATE.
 use crate::{ffi, told, Refusal};
 
 macro_rules! read {

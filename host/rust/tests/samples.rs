@@ -223,6 +223,10 @@ fn bare_numbers() {
     assert_eq!(read_i16(&[0xFF, 0xFF, 0x03], 0), Ok((-32768, 3)));
     assert_eq!(read_i16(&[0x80, 0x80, 0x04], 0), Err(Refusal::RANGE));
     assert_eq!(read_le64(&[1, 0, 0, 0, 0, 0, 0, 0x80], 0), Ok((0x8000_0000_0000_0001, 8)));
+    // a place at the end misses a byte, one past it is no place
+    assert_eq!((read_varint32(&[1], 1), read_varint32(&[1], 2)), (Err(Refusal::END), Err(Refusal::BAD_STATE)));
+    assert_eq!((read_varint64(&[1], 2), read_i16(&[1], 2), read_le64(&[1], 2)), (Err(Refusal::BAD_STATE), Err(Refusal::BAD_STATE), Err(Refusal::BAD_STATE)));
+    assert_eq!((write_varint(&mut [0], 1, 1), write_varint(&mut [0], 2, 1)), (Err(Refusal::NO_ROOM), Err(Refusal::BAD_STATE)));
     for n in [i32::MIN, -1, 0, i32::MAX] {
         assert_eq!(zigzag_to_i32(i32_to_zigzag(n)), n);
         assert_eq!(zigzag_to_i64(i64_to_zigzag(n as i64 * 3)), n as i64 * 3);

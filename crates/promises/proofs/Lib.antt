@@ -1,0 +1,14 @@
+pub mod Within
+pub mod Bytes
+pub mod Reader
+pub mod Writer
+pub mod Anywhere
+pub mod ReaderRows
+pub mod WriterRows
+pub mod Depth
+pub mod Lines
+pub mod Counts
+pub mod Inner
+pub mod Exported
+pub mod Kept
+pub mod Samples

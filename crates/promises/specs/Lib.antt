@@ -1,0 +1,6 @@
+pub mod Reads
+pub mod Writes
+pub mod Standing
+pub mod ReaderRows
+pub mod WriterRows
+pub mod Promises
