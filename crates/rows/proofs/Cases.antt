@@ -173,7 +173,7 @@ head-put row row′ row″ at n w y z e f g h = rw (← h, ← g, ← e) f
 pub begun-put : (row row₁ row₂ row₃ : List ℕ) (at from : ℕ) → row₁ ≡ set row 0 at → row₂ ≡ set row₁ 1 0 → row₃ ≡ set row₂ 5 from → row₃ ≡ set (set (set row 0 at) 1 0) 5 from
 begun-put row row₁ row₂ row₃ at from e f g = rw (← e, ← f) g
 
-pub ruleset heading = (head-put, begun-put, toZ-ofZ, sfits-of)
+pub ruleset heading = (head-put, toZ-ofZ, sfits-of)
 
 -- what was written: the place behind it, and the header's id, as its bits
 pub wrote-moved : (row row′ : List ℕ) (w : Wrote) (p : ℕ) → w ≡ P.To p → row′ ≡ set row 0 p → row′ ≡ wroteRow row w

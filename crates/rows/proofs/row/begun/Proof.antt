@@ -1,5 +1,5 @@
 use borrow.Author.Needs.{needs}
-use Rattle.rows.proofs.Cases.{heading}
+use Rattle.rows.proofs.Cases.{begun-put}
 use Rattle.rows.proofs.row.begun.Statement.{statement}
 use Rattle.rows.proofs.row.begun.Tie as tie
 
@@ -11,4 +11,4 @@ begun-spec =
     (λ c κs. search needs)
     (λ c κs. search needs)
     (λ c. search needs)
-    (λ c. search heading))
+    (λ c. search begun-put))
