@@ -4,21 +4,11 @@
 #include <stdio.h>
 #include <string.h>
 #include "tagrumzil.h"
+#include "expect.h"
 
 /* A message of 9 bytes: call 1 named t, and the struct of field 1 true, field 2 i32 -1. A byte stands behind it. */
 static const uint8_t MESSAGE[10] = {0x82, 0x21, 0x01, 0x01, 0x74, 0x11, 0x15, 0x01, 0x00, 0xFF};
 enum { HEADER = 5, WHOLE = 9 };
-
-static int failed;
-
-static void expect(const char *what, unsigned want, unsigned got)
-{
-    printf("%s: %u\n", what, got);
-    if (want != got) {
-        printf("  not %u\n", want);
-        failed = 1;
-    }
-}
 
 /* The answer of the message's header, or else of a skip over its struct, under a ceiling. */
 static uint8_t pass(uint32_t ceiling)

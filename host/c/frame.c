@@ -4,17 +4,7 @@
 #include <stdio.h>
 #include <string.h>
 #include "tagrumzil.h"
-
-static int failed;
-
-static void expect(const char *what, unsigned want, unsigned got)
-{
-    printf("%s: %u\n", what, got);
-    if (want != got) {
-        printf("  not %u\n", want);
-        failed = 1;
-    }
-}
+#include "expect.h"
 
 static void announce(uint64_t *row, size_t length)
 {
