@@ -1,6 +1,8 @@
 /* Thrift's compact protocol: a reader, a writer, skip, a field picker, the day file and frames over lent memory, each function proved to meet its contract.
  *
- * Link with target/staticlib/libhost.a, which `rt staticlib host` makes. It needs memcpy and memset, and nothing else.
+ * Link with target/staticlib/libtagrumzil.a, which `rt staticlib tagrumzil` makes, for x86-64 Linux. It needs memcpy and memset, and nothing else. It has no data of
+ * its own that changes: calls on different rows and buffers may be made at the same time from different threads.
+ * tagrumzil_easy.h has a reader and a writer over these calls that hold input, state and ids together.
  *
  * Every function answers 0, or the number of a refusal (the enum below). A refused call changes nothing that was lent to it, so it may be made again; the
  * calls of a frame alone keep a refusal, which is its answer.
@@ -40,6 +42,18 @@ extern "C" {
 
 #define TAGRUMZIL_LAYOUT 2
 
+/* What this header is for; tagrumzil_version answers the archive's own. It changes with every change of a row's layout or of what a call means, so a program that
+ * finds them unequal was compiled for another archive than it was linked with. */
+#define TAGRUMZIL_VERSION 1
+uint32_t tagrumzil_version(void);
+
+/* An answer that nobody looks at is a refusal that nobody sees. */
+#if defined(__GNUC__) || defined(__clang__)
+#define TAGRUMZIL_LOOK __attribute__((warn_unused_result))
+#else
+#define TAGRUMZIL_LOOK
+#endif
+
 enum { TAGRUMZIL_ROW = 6, TAGRUMZIL_IDS = 64 };
 
 enum {
@@ -64,6 +78,25 @@ enum {
     TAGRUMZIL_MESSAGE_SIZE = 19     /* a byte needed lies past the message's ceiling, with input behind it; a call's bytes would pass it */
 };
 
+/* Types and kinds of message, by number. */
+enum {
+    TAGRUMZIL_T_STOP = 0,
+    TAGRUMZIL_T_BOOL = 1,
+    TAGRUMZIL_T_I8 = 3,
+    TAGRUMZIL_T_I16 = 4,
+    TAGRUMZIL_T_I32 = 5,
+    TAGRUMZIL_T_I64 = 6,
+    TAGRUMZIL_T_DOUBLE = 7,
+    TAGRUMZIL_T_STRING = 8, /* a string, or a binary */
+    TAGRUMZIL_T_LIST = 9,
+    TAGRUMZIL_T_SET = 10,
+    TAGRUMZIL_T_MAP = 11,
+    TAGRUMZIL_T_STRUCT = 12,
+    TAGRUMZIL_T_UUID = 13
+};
+
+enum { TAGRUMZIL_CALL = 1, TAGRUMZIL_REPLY = 2, TAGRUMZIL_EXCEPTION = 3, TAGRUMZIL_ONEWAY = 4 };
+
 /* A new state under these limits, and under those of the crate thrift: depth 64, strings of 100 MiB, any count, messages of 100 MiB. */
 static inline void tagrumzil_row(uint64_t row[TAGRUMZIL_ROW], uint32_t depth, uint32_t string, uint32_t container, uint32_t message)
 {
@@ -80,14 +113,14 @@ static inline void tagrumzil_default_row(uint64_t row[TAGRUMZIL_ROW])
 /* ---- Numbers, which need no state. `*end` is the place behind what was read or written. A place past the end, at > n, is BAD_STATE. */
 
 /* A varint of 32 bits, and of 64, at a place. Longer forms than needed are read; bits past the width are dropped. END, LONG_VARINT. */
-uint8_t tagrumzil_varint32(const uint8_t *s, size_t n, size_t at, uint32_t *value, size_t *end);
-uint8_t tagrumzil_varint64(const uint8_t *s, size_t n, size_t at, uint64_t *value, size_t *end);
+TAGRUMZIL_LOOK uint8_t tagrumzil_varint32(const uint8_t *s, size_t n, size_t at, uint32_t *value, size_t *end);
+TAGRUMZIL_LOOK uint8_t tagrumzil_varint64(const uint8_t *s, size_t n, size_t at, uint64_t *value, size_t *end);
 /* An i16: a 32-bit zigzag number, TAGRUMZIL_RANGE where it is outside -32768 to 32767. */
-uint8_t tagrumzil_i16(const uint8_t *s, size_t n, size_t at, int16_t *value, size_t *end);
+TAGRUMZIL_LOOK uint8_t tagrumzil_i16(const uint8_t *s, size_t n, size_t at, int16_t *value, size_t *end);
 /* The bits of eight bytes, lowest first. */
-uint8_t tagrumzil_le64(const uint8_t *s, size_t n, size_t at, uint64_t *value, size_t *end);
+TAGRUMZIL_LOOK uint8_t tagrumzil_le64(const uint8_t *s, size_t n, size_t at, uint64_t *value, size_t *end);
 /* Writes a number in the fewest bytes. NO_ROOM. */
-uint8_t tagrumzil_put_varint(uint8_t *buf, size_t n, size_t at, uint64_t value, size_t *end);
+TAGRUMZIL_LOOK uint8_t tagrumzil_put_varint(uint8_t *buf, size_t n, size_t at, uint64_t value, size_t *end);
 /* How many bytes a number takes, 1 to 10. */
 size_t tagrumzil_varint_len(uint64_t value);
 /* Zigzag, both ways. */
@@ -100,39 +133,39 @@ uint64_t tagrumzil_i64_to_zigzag(int64_t value);
 
 /* A message's header: its type, its sequence number, and where its name, which is UTF-8, starts and ends in the input. The last id is 0 from then on,
  * and the message is counted from the header's first byte. */
-uint8_t tagrumzil_read_message_begin(const uint8_t *s, size_t n, uint64_t *row, size_t m, uint8_t *kind, int32_t *sequence, size_t *start, size_t *end);
+TAGRUMZIL_LOOK uint8_t tagrumzil_read_message_begin(const uint8_t *s, size_t n, uint64_t *row, size_t m, uint8_t *kind, int32_t *sequence, size_t *start, size_t *end);
 /* Begins a struct: the last id is put by, and is 0. DEPTH. */
-uint8_t tagrumzil_read_struct_begin(const uint8_t *s, size_t n, uint64_t *row, size_t m, int16_t *ids, size_t k);
+TAGRUMZIL_LOOK uint8_t tagrumzil_read_struct_begin(const uint8_t *s, size_t n, uint64_t *row, size_t m, int16_t *ids, size_t k);
 /* Ends a struct: the last id is the outer one again. OUT_OF_TURN where none is open. */
-uint8_t tagrumzil_read_struct_end(const uint8_t *s, size_t n, uint64_t *row, size_t m, const int16_t *ids, size_t k);
+TAGRUMZIL_LOOK uint8_t tagrumzil_read_struct_end(const uint8_t *s, size_t n, uint64_t *row, size_t m, const int16_t *ids, size_t k);
 /* A field's header. The struct's end has type 0, and then `*id` is left as it is. A bool field's value waits for tagrumzil_read_bool. */
-uint8_t tagrumzil_read_field_begin(const uint8_t *s, size_t n, uint64_t *row, size_t m, uint8_t *kind, int16_t *id);
+TAGRUMZIL_LOOK uint8_t tagrumzil_read_field_begin(const uint8_t *s, size_t n, uint64_t *row, size_t m, uint8_t *kind, int16_t *id);
 /* A bool: the one that waits, for no byte, or else an element. */
-uint8_t tagrumzil_read_bool(const uint8_t *s, size_t n, uint64_t *row, size_t m, bool *value);
-uint8_t tagrumzil_read_i8(const uint8_t *s, size_t n, uint64_t *row, size_t m, int8_t *value);
-uint8_t tagrumzil_read_i16(const uint8_t *s, size_t n, uint64_t *row, size_t m, int16_t *value);
-uint8_t tagrumzil_read_i32(const uint8_t *s, size_t n, uint64_t *row, size_t m, int32_t *value);
-uint8_t tagrumzil_read_i64(const uint8_t *s, size_t n, uint64_t *row, size_t m, int64_t *value);
+TAGRUMZIL_LOOK uint8_t tagrumzil_read_bool(const uint8_t *s, size_t n, uint64_t *row, size_t m, bool *value);
+TAGRUMZIL_LOOK uint8_t tagrumzil_read_i8(const uint8_t *s, size_t n, uint64_t *row, size_t m, int8_t *value);
+TAGRUMZIL_LOOK uint8_t tagrumzil_read_i16(const uint8_t *s, size_t n, uint64_t *row, size_t m, int16_t *value);
+TAGRUMZIL_LOOK uint8_t tagrumzil_read_i32(const uint8_t *s, size_t n, uint64_t *row, size_t m, int32_t *value);
+TAGRUMZIL_LOOK uint8_t tagrumzil_read_i64(const uint8_t *s, size_t n, uint64_t *row, size_t m, int64_t *value);
 /* A double, as its 64 bits, so that any bits are kept. */
-uint8_t tagrumzil_read_double(const uint8_t *s, size_t n, uint64_t *row, size_t m, uint64_t *bits);
+TAGRUMZIL_LOOK uint8_t tagrumzil_read_double(const uint8_t *s, size_t n, uint64_t *row, size_t m, uint64_t *bits);
 /* A uuid, a binary, a string (which is UTF-8): where its bytes start and end in the input. */
-uint8_t tagrumzil_read_uuid(const uint8_t *s, size_t n, uint64_t *row, size_t m, size_t *start, size_t *end);
-uint8_t tagrumzil_read_bytes(const uint8_t *s, size_t n, uint64_t *row, size_t m, size_t *start, size_t *end);
-uint8_t tagrumzil_read_string(const uint8_t *s, size_t n, uint64_t *row, size_t m, size_t *start, size_t *end);
+TAGRUMZIL_LOOK uint8_t tagrumzil_read_uuid(const uint8_t *s, size_t n, uint64_t *row, size_t m, size_t *start, size_t *end);
+TAGRUMZIL_LOOK uint8_t tagrumzil_read_bytes(const uint8_t *s, size_t n, uint64_t *row, size_t m, size_t *start, size_t *end);
+TAGRUMZIL_LOOK uint8_t tagrumzil_read_string(const uint8_t *s, size_t n, uint64_t *row, size_t m, size_t *start, size_t *end);
 /* A list's or a set's header: its elements' type, and how many there are. Where they can't be there, by 16 bytes for a uuid, 8 for a double and 1 for any
  * other, END: room may be reserved by the count. */
-uint8_t tagrumzil_read_list_begin(const uint8_t *s, size_t n, uint64_t *row, size_t m, uint8_t *kind, uint32_t *count);
-uint8_t tagrumzil_read_set_begin(const uint8_t *s, size_t n, uint64_t *row, size_t m, uint8_t *kind, uint32_t *count);
+TAGRUMZIL_LOOK uint8_t tagrumzil_read_list_begin(const uint8_t *s, size_t n, uint64_t *row, size_t m, uint8_t *kind, uint32_t *count);
+TAGRUMZIL_LOOK uint8_t tagrumzil_read_set_begin(const uint8_t *s, size_t n, uint64_t *row, size_t m, uint8_t *kind, uint32_t *count);
 /* A map's header: its keys' and values' types, both 0 in an empty map, and how many pairs there are; END alike. */
-uint8_t tagrumzil_read_map_begin(const uint8_t *s, size_t n, uint64_t *row, size_t m, uint8_t *key, uint8_t *value, uint32_t *count);
+TAGRUMZIL_LOOK uint8_t tagrumzil_read_map_begin(const uint8_t *s, size_t n, uint64_t *row, size_t m, uint8_t *key, uint8_t *value, uint32_t *count);
 /* Passes over one value of a type. It succeeds exactly on a well-formed value within the limits. A bool that waits is taken by a skip of bool. */
-uint8_t tagrumzil_skip(const uint8_t *s, size_t n, uint64_t *row, size_t m, uint8_t kind);
+TAGRUMZIL_LOOK uint8_t tagrumzil_skip(const uint8_t *s, size_t n, uint64_t *row, size_t m, uint8_t kind);
 /* The picker, where a struct starts: for each of the k wanted field ids, with its type's number in (kinds, j), three numbers in (found, i): what was found
  * (TAGRUMZIL_ABSENT ..), and for TAGRUMZIL_HERE where the value's bytes start and end. Of the fields directly in the struct the last of the id and type is
  * told. The reader moves behind the struct, as a skip of it does. At most 64 ids, none twice, as many types, none of them stop: else TAGRUMZIL_BAD_LIST.
  * i is at least 3 times k, else TAGRUMZIL_NO_ROOM; numbers behind the rows stay as they are. */
 enum { TAGRUMZIL_ABSENT = 0, TAGRUMZIL_WRONG_TYPE = 1, TAGRUMZIL_HERE = 2, TAGRUMZIL_FALSE = 3, TAGRUMZIL_TRUE = 4 };
-uint8_t tagrumzil_pick(const uint8_t *s, size_t n, uint64_t *row, size_t m, const int16_t *wanted, size_t k, const uint8_t *kinds, size_t j, size_t *found, size_t i);
+TAGRUMZIL_LOOK uint8_t tagrumzil_pick(const uint8_t *s, size_t n, uint64_t *row, size_t m, const int16_t *wanted, size_t k, const uint8_t *kinds, size_t j, size_t *found, size_t i);
 
 /* Where and why a skip of the struct at the reader's place is refused. It answers as that skip would, 0 or the number, and whatever it answers writes *offset and
  * *steps. At 0: the place behind the struct, and no steps. Else the offset, in the input, of the last byte that was read before the refusal: the reader's place where
@@ -141,50 +174,50 @@ uint8_t tagrumzil_pick(const uint8_t *s, size_t n, uint64_t *row, size_t m, cons
  * number from 0. What stands behind them stays. TAGRUMZIL_PATH numbers are always enough; where there is no room for the path, TAGRUMZIL_NO_ROOM, at the reader's
  * place. TAGRUMZIL_BAD_STATE and TAGRUMZIL_OUT_OF_TURN are at the reader's place too. The row does not move. */
 enum { TAGRUMZIL_FIELD = 0, TAGRUMZIL_ELEMENT = 1, TAGRUMZIL_KEY = 2, TAGRUMZIL_VALUE = 3, TAGRUMZIL_PATH = 128 };
-uint8_t tagrumzil_why(const uint8_t *s, size_t n, const uint64_t *row, size_t m, int64_t *path, size_t j, size_t *offset, size_t *steps);
+TAGRUMZIL_LOOK uint8_t tagrumzil_why(const uint8_t *s, size_t n, const uint64_t *row, size_t m, int64_t *path, size_t j, size_t *offset, size_t *steps);
 
 /* ---- The writer. (buf, n) is the buffer, (row, m) the state. A refused call has written nothing. */
 
 /* A message's header. The name is UTF-8 and within the limit on strings. The message is counted from the header's first byte. */
-uint8_t tagrumzil_write_message_begin(uint8_t *buf, size_t n, uint64_t *row, size_t m, uint8_t kind, int32_t sequence, const uint8_t *name, size_t k);
+TAGRUMZIL_LOOK uint8_t tagrumzil_write_message_begin(uint8_t *buf, size_t n, uint64_t *row, size_t m, uint8_t kind, int32_t sequence, const uint8_t *name, size_t k);
 /* Begins a struct: the last id is put by, and is 0. No byte is written. */
-uint8_t tagrumzil_write_struct_begin(uint8_t *buf, size_t n, uint64_t *row, size_t m, int16_t *ids, size_t k);
+TAGRUMZIL_LOOK uint8_t tagrumzil_write_struct_begin(uint8_t *buf, size_t n, uint64_t *row, size_t m, int16_t *ids, size_t k);
 /* Ends a struct: the last id is the outer one again. No byte is written: tagrumzil_write_field_stop comes before it. */
-uint8_t tagrumzil_write_struct_end(uint8_t *buf, size_t n, uint64_t *row, size_t m, const int16_t *ids, size_t k);
+TAGRUMZIL_LOOK uint8_t tagrumzil_write_struct_end(uint8_t *buf, size_t n, uint64_t *row, size_t m, const int16_t *ids, size_t k);
 /* A field's header. A bool field's is written by tagrumzil_write_bool. Type 0 is BAD_TYPE. */
-uint8_t tagrumzil_write_field_begin(uint8_t *buf, size_t n, uint64_t *row, size_t m, uint8_t kind, int16_t id);
+TAGRUMZIL_LOOK uint8_t tagrumzil_write_field_begin(uint8_t *buf, size_t n, uint64_t *row, size_t m, uint8_t kind, int16_t id);
 /* The byte that ends a struct's fields. */
-uint8_t tagrumzil_write_field_stop(uint8_t *buf, size_t n, uint64_t *row, size_t m);
+TAGRUMZIL_LOOK uint8_t tagrumzil_write_field_stop(uint8_t *buf, size_t n, uint64_t *row, size_t m);
 /* A bool: the header of the bool field that waits, or else an element. */
-uint8_t tagrumzil_write_bool(uint8_t *buf, size_t n, uint64_t *row, size_t m, bool truth);
-uint8_t tagrumzil_write_i8(uint8_t *buf, size_t n, uint64_t *row, size_t m, int8_t value);
-uint8_t tagrumzil_write_i16(uint8_t *buf, size_t n, uint64_t *row, size_t m, int16_t value);
-uint8_t tagrumzil_write_i32(uint8_t *buf, size_t n, uint64_t *row, size_t m, int32_t value);
-uint8_t tagrumzil_write_i64(uint8_t *buf, size_t n, uint64_t *row, size_t m, int64_t value);
+TAGRUMZIL_LOOK uint8_t tagrumzil_write_bool(uint8_t *buf, size_t n, uint64_t *row, size_t m, bool truth);
+TAGRUMZIL_LOOK uint8_t tagrumzil_write_i8(uint8_t *buf, size_t n, uint64_t *row, size_t m, int8_t value);
+TAGRUMZIL_LOOK uint8_t tagrumzil_write_i16(uint8_t *buf, size_t n, uint64_t *row, size_t m, int16_t value);
+TAGRUMZIL_LOOK uint8_t tagrumzil_write_i32(uint8_t *buf, size_t n, uint64_t *row, size_t m, int32_t value);
+TAGRUMZIL_LOOK uint8_t tagrumzil_write_i64(uint8_t *buf, size_t n, uint64_t *row, size_t m, int64_t value);
 /* A double by its 64 bits. */
-uint8_t tagrumzil_write_double(uint8_t *buf, size_t n, uint64_t *row, size_t m, uint64_t bits);
+TAGRUMZIL_LOOK uint8_t tagrumzil_write_double(uint8_t *buf, size_t n, uint64_t *row, size_t m, uint64_t bits);
 /* A uuid: 16 bytes at the pointer. */
-uint8_t tagrumzil_write_uuid(uint8_t *buf, size_t n, uint64_t *row, size_t m, const uint8_t uuid[16]);
+TAGRUMZIL_LOOK uint8_t tagrumzil_write_uuid(uint8_t *buf, size_t n, uint64_t *row, size_t m, const uint8_t uuid[16]);
 /* A binary, and a string, whose bytes must be UTF-8. SIZE_LIMIT, BAD_UTF8. */
-uint8_t tagrumzil_write_bytes(uint8_t *buf, size_t n, uint64_t *row, size_t m, const uint8_t *blob, size_t k);
-uint8_t tagrumzil_write_string(uint8_t *buf, size_t n, uint64_t *row, size_t m, const uint8_t *text, size_t k);
+TAGRUMZIL_LOOK uint8_t tagrumzil_write_bytes(uint8_t *buf, size_t n, uint64_t *row, size_t m, const uint8_t *blob, size_t k);
+TAGRUMZIL_LOOK uint8_t tagrumzil_write_string(uint8_t *buf, size_t n, uint64_t *row, size_t m, const uint8_t *text, size_t k);
 /* A list's or a set's header. NEGATIVE_SIZE, SIZE_LIMIT; type 0 with elements is BAD_TYPE. */
-uint8_t tagrumzil_write_list_begin(uint8_t *buf, size_t n, uint64_t *row, size_t m, uint8_t kind, int32_t count);
-uint8_t tagrumzil_write_set_begin(uint8_t *buf, size_t n, uint64_t *row, size_t m, uint8_t kind, int32_t count);
+TAGRUMZIL_LOOK uint8_t tagrumzil_write_list_begin(uint8_t *buf, size_t n, uint64_t *row, size_t m, uint8_t kind, int32_t count);
+TAGRUMZIL_LOOK uint8_t tagrumzil_write_set_begin(uint8_t *buf, size_t n, uint64_t *row, size_t m, uint8_t kind, int32_t count);
 /* A map's header. An empty map has no types: the numbers given for them have no say. */
-uint8_t tagrumzil_write_map_begin(uint8_t *buf, size_t n, uint64_t *row, size_t m, uint8_t key, uint8_t value, int32_t count);
+TAGRUMZIL_LOOK uint8_t tagrumzil_write_map_begin(uint8_t *buf, size_t n, uint64_t *row, size_t m, uint8_t key, uint8_t value, int32_t count);
 
 /* ---- The day file, which needs no state: a day's messages in one file. A header of a count N and N + 1 offsets, each a little-endian 32-bit number, then the
  * messages one after another. The first offset is 4N + 8, each is larger than the one before, the last is the file's length; N is at most 4096. What stands in a
  * message is checked only when it is read: as an input of its own (file + start, end - start), or by a row with its start in row[0] and row[5]. */
 
 /* Whether the file keeps these rules, and how many messages it has. BAD_DAY. */
-uint8_t tagrumzil_check_day(const uint8_t *file, size_t n, size_t *count);
+TAGRUMZIL_LOOK uint8_t tagrumzil_check_day(const uint8_t *file, size_t n, size_t *count);
 /* Where message k, counted from 0, starts and ends. The whole file is checked first. BAD_DAY, for a number of N or more too. */
-uint8_t tagrumzil_day_message(const uint8_t *file, size_t n, size_t k, size_t *start, size_t *end);
+TAGRUMZIL_LOOK uint8_t tagrumzil_day_message(const uint8_t *file, size_t n, size_t k, size_t *start, size_t *end);
 /* The file of m messages, which stand one behind the other in the k bytes, each up to its end, at the start of the output; and its length, 4m + 8 + k. BAD_DAY for
  * an empty message, more than 4096, a file of more than 4294967295 bytes, or ends that do not rise to k; then NO_ROOM. */
-uint8_t tagrumzil_write_day(uint8_t *out, size_t n, const uint8_t *bytes, size_t k, const size_t *ends, size_t m, size_t *length);
+TAGRUMZIL_LOOK uint8_t tagrumzil_write_day(uint8_t *out, size_t n, const uint8_t *bytes, size_t k, const size_t *ends, size_t m, size_t *length);
 
 /* ---- Frames from the radio: a skip of one struct whose bytes come in bursts, up to an announced length. It keeps no bytes of them.
  *
@@ -208,11 +241,11 @@ uint8_t tagrumzil_write_day(uint8_t *out, size_t n, const uint8_t *bytes, size_t
 enum { TAGRUMZIL_FRAME = 268, TAGRUMZIL_MORE = 255 };
 
 /* A frame of an announced length, of which nothing has come: 0. BAD_STATE for a limit out of its range. */
-uint8_t tagrumzil_frame_announce(uint64_t *row, size_t m, size_t length, uint32_t depth, uint32_t string, uint32_t container, uint32_t message);
+TAGRUMZIL_LOOK uint8_t tagrumzil_frame_announce(uint64_t *row, size_t m, size_t length, uint32_t depth, uint32_t string, uint32_t container, uint32_t message);
 /* A burst, which may be empty. Bytes past the announced length, or past the ceiling, are not taken. */
-uint8_t tagrumzil_frame_take(uint64_t *row, size_t m, const uint8_t *burst, size_t n, size_t *used);
+TAGRUMZIL_LOOK uint8_t tagrumzil_frame_take(uint64_t *row, size_t m, const uint8_t *burst, size_t n, size_t *used);
 /* No more bytes come: END, unless the frame has its answer. */
-uint8_t tagrumzil_frame_close(uint64_t *row, size_t m, size_t *used);
+TAGRUMZIL_LOOK uint8_t tagrumzil_frame_close(uint64_t *row, size_t m, size_t *used);
 
 #ifdef __cplusplus
 }

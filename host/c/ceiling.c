@@ -1,5 +1,5 @@
-/* The ceiling per message, and rows that hold no state for it. From the repository's root, after `rt staticlib host`:
- *     cc -I host host/c/ceiling.c target/staticlib/libhost.a -o /tmp/ceiling && /tmp/ceiling
+/* The ceiling per message, and rows that hold no state for it. From the repository's root, after `rt staticlib tagrumzil`:
+ *     cc -I host host/c/ceiling.c target/staticlib/libtagrumzil.a -o /tmp/ceiling && /tmp/ceiling
  */
 #include <stdio.h>
 #include <string.h>

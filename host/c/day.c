@@ -1,5 +1,5 @@
-/* A day's messages in one file. From the repository's root, after `rt staticlib host`:
- *     cc -I host host/c/day.c target/staticlib/libhost.a -o /tmp/day && /tmp/day
+/* A day's messages in one file. From the repository's root, after `rt staticlib tagrumzil`:
+ *     cc -I host host/c/day.c target/staticlib/libtagrumzil.a -o /tmp/day && /tmp/day
  */
 #include <stdio.h>
 #include <string.h>

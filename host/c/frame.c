@@ -1,5 +1,5 @@
-/* A frame whose bytes come in bursts. From the repository's root, after `rt staticlib host`:
- *     cc -I host host/c/frame.c target/staticlib/libhost.a -o /tmp/frame && /tmp/frame
+/* A frame whose bytes come in bursts. From the repository's root, after `rt staticlib tagrumzil`:
+ *     cc -I host host/c/frame.c target/staticlib/libtagrumzil.a -o /tmp/frame && /tmp/frame
  */
 #include <stdio.h>
 #include <string.h>

@@ -35,7 +35,8 @@ use Rattle.frame.specs.declared.FrameAnswer.the-variants as A
 use Rattle.frame.specs.State.{levelOf}
 use Rattle.frame_rows.specs.Row.{nestIn, nowIn, nowOr, holds, levelsOf, restIn, putCounts, putPlaces, frameIn, noFrame, frameOf, putTyped, putNest, putGoal, putForm, putWait, putNow, putNests, mostOpen, framed, limited}
 use Rattle.frame_rows.proofs.Cases.{depth-held}
-use Rattle.frame_rows.specs.Tell.{MORE, numberFrame, frameAfter}
+use Rattle.frame.specs.Numbers.{MORE, numberFrame}
+use Rattle.frame_rows.specs.Tell.{frameAfter}
 
 module _ (row r₁ r₂ : List ℕ) where
   pub typed-put : (r₃ : List ℕ) (i form c n : ℕ) (k : TType) → r₁ ≡ set row (12 + 4 * i) form → c ≡ typeCode k → r₂ ≡ set r₁ (13 + 4 * i) c → r₃ ≡ set r₂ (15 + 4 * i) n → r₃ ≡ putTyped row i form k n

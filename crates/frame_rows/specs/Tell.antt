@@ -13,16 +13,8 @@ use Rattle.frame.specs.declared.FrameAnswer.{FrameAnswer}
 use Rattle.frame.specs.declared.FrameAnswer.the-variants as A
 use Rattle.frame.specs.declared.Taken.{Taken}
 use Rattle.frame.specs.State.{Begins, Took}
+use Rattle.frame.specs.Numbers.{numberFrame}
 use Rattle.frame_rows.specs.Row.{frameOf, framed, limited}
-
--- 0 for an end, 255 where more bytes are waited for, or a refusal's number
-abbrev pub MORE : ℕ
-MORE = 255
-
-abbrev pub numberFrame : FrameAnswer → ℕ
-numberFrame A.More = MORE
-numberFrame (A.Done n) = 0
-numberFrame (A.Refused why) = why
 
 -- the bytes used, told at the end alone
 abbrev pub usedFrame : ℕ → FrameAnswer → ℕ

@@ -1,4 +1,4 @@
--- What each export's contract says (crates/host/src) is what the page calls its export: the number, the row, the ids and the buffer. Assumes nothing.
+-- What each export's contract says (crates/tagrumzil/src) is what the page calls its export: the number, the row, the ids and the buffer. Assumes nothing.
 use mathlib.Core.Path.{_≡_}
 use mathlib.Core.Bool.{Bool, true, false}
 use mathlib.Core.List.{List}

@@ -44,7 +44,7 @@ use Rattle.picker.specs.Pick.{onStruct, picks, forgets, pickCall}
 use Rattle.rows.specs.Row.{limitsOf, readerOf, readerAfter, refilled}
 use Rattle.rows.specs.Structs.{structReader, savedRead, restoredRead}
 use Rattle.rows.proofs.Cases.{reader-left}
-use Rattle.host.proofs.Whole as whole
+use Rattle.tagrumzil.proofs.Whole as whole
 use Rattle.promises.specs.Reads as r
 use Rattle.promises.specs.Reads.{Plain, Header, Read, Ended, ended, reads, readsAll}
 use Rattle.promises.specs.ReaderRows as x

@@ -30,7 +30,7 @@ use Rattle.rows.specs.Row.{limitsOf, writerOf, writerAfter, refilled}
 use Rattle.rows.specs.Writes.{numberWritten}
 use Rattle.rows.specs.Structs.{structWriter, savedWrite, restoredWrite, beginWrites, beginLeaves, endWrites, endLeaves, lastWrite}
 use Rattle.rows.proofs.Cases.{writer-left}
-use Rattle.host.proofs.Whole as whole
+use Rattle.tagrumzil.proofs.Whole as whole
 use Rattle.promises.specs.Writes as w
 use Rattle.promises.specs.Writes.{Write, callOf, number, next, left, Kept, writesAll}
 use Rattle.promises.specs.WriterRows as x

@@ -1,5 +1,7 @@
 //! A day's messages in one file: a count, the offsets, and the messages one after another.
 use crate::{ffi, told, Refusal};
+#[cfg(feature = "alloc")]
+use alloc::{vec, vec::Vec};
 
 /// A day file, checked whole once. Its messages are parts of the borrowed bytes; what stands in them is checked only when they are read.
 ///
@@ -98,12 +100,14 @@ pub fn write_day(buffer: &mut [u8], bytes: &[u8], ends: &[usize]) -> Result<usiz
 }
 
 /// Gathers messages for a day file.
+#[cfg(feature = "alloc")]
 #[derive(Clone, Debug, Default)]
 pub struct DayWriter {
     bytes: Vec<u8>,
     ends: Vec<usize>,
 }
 
+#[cfg(feature = "alloc")]
 impl DayWriter {
     /// No messages yet.
     pub fn new() -> DayWriter {

@@ -1,6 +1,6 @@
 //! Where and why a struct is refused.
 use crate::{ffi, Refusal, TCompactInputProtocol, ROW};
-use std::fmt;
+use core::fmt;
 
 /// The most steps of a path: one for each level.
 const MOST: usize = 64;
@@ -95,7 +95,7 @@ impl fmt::Debug for Fault {
     }
 }
 
-impl std::error::Error for Fault {}
+impl core::error::Error for Fault {}
 
 impl TCompactInputProtocol<'_> {
     /// Why a [`skip`](Self::skip) of the struct at the reader's place is refused, and where; `None` where it is accepted. The reader stays.

@@ -2,6 +2,7 @@
 #![allow(missing_docs)]
 
 extern "C" {
+    pub fn tagrumzil_version() -> u32;
     pub fn tagrumzil_varint32(s: *const u8, n: usize, at: usize, value: *mut u32, end: *mut usize) -> u8;
     pub fn tagrumzil_varint64(s: *const u8, n: usize, at: usize, value: *mut u64, end: *mut usize) -> u8;
     pub fn tagrumzil_i16(s: *const u8, n: usize, at: usize, value: *mut i16, end: *mut usize) -> u8;

@@ -1,5 +1,5 @@
 //! Frames whose bytes come in bursts: a skip of one struct that keeps its place between them.
-use crate::{ffi, Refusal, TConfiguration};
+use crate::{check_version, ffi, Refusal, TConfiguration};
 
 /// How many numbers the state has: its layout stands in host/tagrumzil.h.
 const NUMBERS: usize = 268;
@@ -36,7 +36,9 @@ pub struct FrameSkip {
 
 impl FrameSkip {
     /// A frame of an announced length, of which nothing has come. The ceiling counts from its first byte. Every call refuses limits out of range, BAD STATE.
+    #[must_use]
     pub fn announce(length: usize, limits: TConfiguration) -> FrameSkip {
+        check_version();
         let mut row = [0; NUMBERS];
         // SAFETY: the pointer and the length are those of a live borrow. Refused limits leave a row of zeros, which holds no state that a call takes.
         unsafe { ffi::tagrumzil_frame_announce(row.as_mut_ptr(), NUMBERS, length, limits.depth, limits.string, limits.container, limits.message) };

@@ -1,4 +1,4 @@
-use crate::{ffi, new_row, told, Refusal, TConfiguration, TFieldIdentifier, TListIdentifier, TMapIdentifier, TMessageIdentifier, TMessageType, TType, IDS, ROW};
+use crate::{check_version, ffi, new_row, told, Refusal, TConfiguration, TFieldIdentifier, TListIdentifier, TMapIdentifier, TMessageIdentifier, TMessageType, TType, IDS, ROW};
 
 /// Reads values of the compact protocol from a slice.
 #[derive(Clone, Debug)]
@@ -30,12 +30,15 @@ macro_rules! scalar {
 
 impl<'a> TCompactInputProtocol<'a> {
     /// A reader at the start of its input, with the default limits.
+    #[must_use]
     pub fn new(input: &'a [u8]) -> Self {
         Self::with_config(input, TConfiguration::default())
     }
 
-    /// A reader with limits of its own.
+    /// A reader with limits of its own. Under limits out of range every call is BAD STATE; [`TConfiguration::new`] checks them when they are set.
+    #[must_use]
     pub fn with_config(input: &'a [u8], limits: TConfiguration) -> Self {
+        check_version();
         TCompactInputProtocol { input, row: new_row(limits), ids: [0; IDS] }
     }
 
@@ -49,16 +52,19 @@ impl<'a> TCompactInputProtocol<'a> {
         &self.input[self.place()..]
     }
 
+    // The limits as the row has them.
+    fn limits(&self) -> TConfiguration {
+        TConfiguration { depth: self.row[3] as u32, string: self.row[4] as u32, container: (self.row[4] >> 32) as u32, message: (self.row[3] >> 32) as u32 }
+    }
+
     pub(crate) fn input_and_row(&self) -> (&'a [u8], &[u64; ROW]) {
         (self.input, &self.row)
     }
 
-    // A type that was read has its number, by the call's contract: what stands at the others is never looked at.
+    // A type that was read has its number, by the call's contract.
     #[inline]
     fn kind(number: u8) -> TType {
-        use TType::*;
-        const TYPES: [TType; 16] = [Stop, Bool, Stop, I08, I16, I32, I64, Double, String, List, Set, Map, Struct, Uuid, Stop, Stop];
-        TYPES[number as usize % 16]
+        TType::from_number(number).expect("the archive answers types that there are")
     }
 
     /// A message's header. Field ids start anew from it, and the message is counted from its first byte.
@@ -67,7 +73,7 @@ impl<'a> TCompactInputProtocol<'a> {
         call!(self, tagrumzil_read_message_begin, &mut kind, &mut sequence, &mut start, &mut end)?;
         Ok(TMessageIdentifier {
             name: text(&self.input[start..end]),
-            message_type: TMessageType::from_number(kind).unwrap_or(TMessageType::Call),
+            message_type: TMessageType::from_number(kind).expect("the archive answers message types that there are"),
             sequence_number: sequence,
         })
     }
@@ -164,6 +170,29 @@ impl<'a> TCompactInputProtocol<'a> {
         call!(self, tagrumzil_skip, field_type as u8)
     }
 
+    /// At a struct's start: for each wanted field id and type the last field of that id and type directly in the struct, in the order of the list. The reader
+    /// moves behind the struct, as [`skip`](Self::skip) of it does. At most 64 ids, none twice.
+    ///
+    /// ```
+    /// use tagrumzil::{TCompactInputProtocol, TType};
+    ///
+    /// let bytes = [0x15, 0x06, 0x28, 0x01, b'm', 0x11, 0x00];
+    /// let [count, name, done, none] = TCompactInputProtocol::new(&bytes)
+    ///     .pick_fields([(1, TType::I32), (3, TType::String), (4, TType::Bool), (9, TType::Double)])?;
+    /// assert_eq!(count.as_i32(), Some(3));
+    /// assert_eq!(name.as_str(), Some("m"));
+    /// assert_eq!(done.as_bool(), Some(true));
+    /// assert_eq!(none.as_f64(), None);
+    /// # Ok::<(), tagrumzil::Refusal>(())
+    /// ```
+    pub fn pick_fields<const N: usize>(&mut self, wanted: [(i16, TType); N]) -> Result<[PickedField<'a>; N], Refusal> {
+        let mut found = [Picked::Absent; N];
+        let limits = self.limits();
+        self.pick(&wanted.map(|(id, _)| id), &wanted.map(|(_, field_type)| field_type), &mut found)?;
+        let mut fields = wanted.iter().zip(found).map(|((_, field_type), picked)| PickedField { field_type: *field_type, picked, limits });
+        Ok(core::array::from_fn(|_| fields.next().expect("as many fields as are wanted")))
+    }
+
     /// At a struct's start: for each wanted field id, with its type beside it, the last field of that id and type directly in the struct, in `found`
     /// at the id's own number. The reader moves behind the struct, as [`skip`](Self::skip) of it does. At most 64 ids, none twice.
     pub fn pick(&mut self, ids: &[i16], types: &[TType], found: &mut [Picked<'a>]) -> Result<(), Refusal> {
@@ -206,9 +235,75 @@ pub enum Picked<'a> {
     Bool(bool),
 }
 
+/// A wanted field as [`pick_fields`](TCompactInputProtocol::pick_fields) found it, with its type: each call gives the value where the field is there and of
+/// that type, else nothing.
+#[derive(Clone, Copy, Debug)]
+pub struct PickedField<'a> {
+    field_type: TType,
+    picked: Picked<'a>,
+    limits: TConfiguration,
+}
+
+macro_rules! value {
+    ($(#[$doc:meta])* $name:ident, $read:ident, $field_type:ident, $value:ty) => {
+        $(#[$doc])*
+        #[must_use]
+        pub fn $name(&self) -> Option<$value> {
+            self.of(TType::$field_type)?.$read().ok()
+        }
+    };
+}
+
+impl<'a> PickedField<'a> {
+    /// What was found.
+    #[must_use]
+    pub fn picked(&self) -> Picked<'a> {
+        self.picked
+    }
+
+    /// A reader of the value's bytes, for what is inside a struct, a list, a set or a map.
+    #[must_use]
+    pub fn reader(&self) -> Option<TCompactInputProtocol<'a>> {
+        match self.picked {
+            Picked::Here(bytes) => Some(TCompactInputProtocol::with_config(bytes, self.limits)),
+            _ => None,
+        }
+    }
+
+    fn of(&self, field_type: TType) -> Option<TCompactInputProtocol<'a>> {
+        self.reader().filter(|_| self.field_type == field_type)
+    }
+
+    /// A bool.
+    #[must_use]
+    pub fn as_bool(&self) -> Option<bool> {
+        match self.picked {
+            Picked::Bool(truth) => Some(truth),
+            _ => None,
+        }
+    }
+
+    value!(/// A signed byte.
+        as_i8, read_i8, I08, i8);
+    value!(/// An i16.
+        as_i16, read_i16, I16, i16);
+    value!(/// An i32.
+        as_i32, read_i32, I32, i32);
+    value!(/// An i64.
+        as_i64, read_i64, I64, i64);
+    value!(/// A double.
+        as_f64, read_double, Double, f64);
+    value!(/// A uuid's 16 bytes.
+        as_uuid, read_uuid, Uuid, [u8; 16]);
+    value!(/// A binary's or a string's bytes.
+        as_bytes, read_bytes, String, &'a [u8]);
+    value!(/// A string, where it is UTF-8.
+        as_str, read_string, String, &'a str);
+}
+
 /// The bytes of a string that was read: UTF-8 by the call's contract, and checked again since a mistake here would be unsound.
 fn text(bytes: &[u8]) -> &str {
-    std::str::from_utf8(bytes).unwrap_or("")
+    core::str::from_utf8(bytes).expect("the archive answers strings that are UTF-8")
 }
 
 /// Where one value of a type that starts at a place ends, under the default limits.

@@ -1,3 +1,5 @@
+use crate::Refusal;
+
 /// The types of the protocol, with their numbers.
 #[derive(Clone, Copy, Debug, PartialEq, Eq, Hash)]
 #[repr(u8)]
@@ -32,13 +34,24 @@ pub enum TType {
 
 impl TType {
     /// The type of a number, if there is one.
+    #[inline]
     pub fn from_number(number: u8) -> Option<TType> {
-        use TType::*;
-        const TYPES: [Option<TType>; 14] = [
-            Some(Stop), Some(Bool), None, Some(I08), Some(I16), Some(I32), Some(I64), Some(Double), Some(String), Some(List), Some(Set), Some(Map), Some(Struct),
-            Some(Uuid),
-        ];
-        TYPES.get(number as usize).copied().flatten()
+        match number {
+            0 => Some(TType::Stop),
+            1 => Some(TType::Bool),
+            3 => Some(TType::I08),
+            4 => Some(TType::I16),
+            5 => Some(TType::I32),
+            6 => Some(TType::I64),
+            7 => Some(TType::Double),
+            8 => Some(TType::String),
+            9 => Some(TType::List),
+            10 => Some(TType::Set),
+            11 => Some(TType::Map),
+            12 => Some(TType::Struct),
+            13 => Some(TType::Uuid),
+            _ => None,
+        }
     }
 }
 
@@ -80,6 +93,17 @@ pub struct TConfiguration {
     pub container: u32,
     /// How many bytes a message may have, from its header's first byte on; before any message, from where the state was made.
     pub message: u32,
+}
+
+impl TConfiguration {
+    /// Limits that are checked: BAD STATE where one is out of its range.
+    pub fn new(depth: u32, string: u32, container: u32, message: u32) -> Result<TConfiguration, Refusal> {
+        let most = i32::MAX as u32;
+        if depth > 64 || string > most || container > most || message > most {
+            return Err(Refusal::BAD_STATE);
+        }
+        Ok(TConfiguration { depth, string, container, message })
+    }
 }
 
 impl Default for TConfiguration {

@@ -1,29 +1,141 @@
-use crate::{ffi, new_row, told, Refusal, TConfiguration, TMessageIdentifier, TType, IDS, ROW};
+use crate::{check_version, ffi, new_row, told, Refusal, TConfiguration, TMessageIdentifier, TType, IDS, ROW};
+
+/// Where a writer's bytes go: a lent slice, which has the room that it has, or a `Vec`, which grows.
+pub trait Buffer: private::Sealed {}
+
+mod private {
+    pub trait Sealed {
+        fn room(&mut self) -> &mut [u8];
+        fn bytes(&self) -> &[u8];
+        /// Whether there is more room now, for a call that was refused for want of it.
+        fn grow(&mut self) -> bool;
+    }
+}
+
+impl Buffer for &mut [u8] {}
+
+impl private::Sealed for &mut [u8] {
+    #[inline]
+    fn room(&mut self) -> &mut [u8] {
+        self
+    }
+
+    fn bytes(&self) -> &[u8] {
+        self
+    }
+
+    fn grow(&mut self) -> bool {
+        false
+    }
+}
+
+#[cfg(feature = "alloc")]
+impl Buffer for alloc::vec::Vec<u8> {}
+
+#[cfg(feature = "alloc")]
+impl private::Sealed for alloc::vec::Vec<u8> {
+    #[inline]
+    fn room(&mut self) -> &mut [u8] {
+        self
+    }
+
+    fn bytes(&self) -> &[u8] {
+        self
+    }
+
+    fn grow(&mut self) -> bool {
+        let twice = self.len().saturating_mul(2).max(64);
+        self.resize(twice, 0);
+        true
+    }
+}
 
 /// Writes values of the compact protocol into a lent buffer.
+pub type TCompactOutputProtocol<'a> = CompactWriter<&'a mut [u8]>;
+
+/// Writes values of the compact protocol into a buffer that grows.
+///
+/// ```
+/// use tagrumzil::GrowingOutputProtocol;
+///
+/// let mut out = GrowingOutputProtocol::new();
+/// out.write_string("filter 4")?;
+/// out.write_i32(-1)?;
+/// assert_eq!(out.finish(), b"\x08filter 4\x01");
+/// # Ok::<(), tagrumzil::Refusal>(())
+/// ```
+#[cfg(feature = "alloc")]
+pub type GrowingOutputProtocol = CompactWriter<alloc::vec::Vec<u8>>;
+
+/// What both writers are: [`TCompactOutputProtocol`] and [`GrowingOutputProtocol`].
 #[derive(Debug)]
-pub struct TCompactOutputProtocol<'a> {
-    buffer: &'a mut [u8],
+pub struct CompactWriter<B: Buffer> {
+    buffer: B,
     row: [u64; ROW],
     ids: [i16; IDS],
 }
 
+// A call over (buffer, row). A refused call changes nothing, so for want of room it is made again once there is more; the ceiling, which is looked at first, ends that.
 macro_rules! call {
     ($self:ident, $export:ident $(, $arg:expr)*) => {
-        // SAFETY: the pointers and lengths are those of live borrows, and no two of them overlap.
-        told(unsafe { ffi::$export($self.buffer.as_mut_ptr(), $self.buffer.len(), $self.row.as_mut_ptr(), ROW $(, $arg)*) })
+        loop {
+            let room = $self.buffer.room();
+            // SAFETY: the pointers and lengths are those of live borrows, and no two of them overlap.
+            let answer = told(unsafe { ffi::$export(room.as_mut_ptr(), room.len(), $self.row.as_mut_ptr(), ROW $(, $arg)*) });
+            if answer != Err(Refusal::NO_ROOM) || !$self.buffer.grow() {
+                return answer;
+            }
+        }
     };
 }
 
-impl<'a> TCompactOutputProtocol<'a> {
+impl<'a> CompactWriter<&'a mut [u8]> {
     /// A writer at the start of its buffer, with the default limits.
+    #[must_use]
     pub fn new(buffer: &'a mut [u8]) -> Self {
         Self::with_config(buffer, TConfiguration::default())
     }
 
-    /// A writer with limits of its own.
+    /// A writer with limits of its own. Under limits out of range every call is BAD STATE; [`TConfiguration::new`] checks them when they are set.
+    #[must_use]
     pub fn with_config(buffer: &'a mut [u8], limits: TConfiguration) -> Self {
-        TCompactOutputProtocol { buffer, row: new_row(limits), ids: [0; IDS] }
+        Self::over(buffer, limits)
+    }
+}
+
+#[cfg(feature = "alloc")]
+impl CompactWriter<alloc::vec::Vec<u8>> {
+    /// A writer whose buffer grows, with the default limits.
+    #[must_use]
+    pub fn new() -> Self {
+        Self::with_config(TConfiguration::default())
+    }
+
+    /// The same with limits of its own.
+    #[must_use]
+    pub fn with_config(limits: TConfiguration) -> Self {
+        Self::over(alloc::vec::Vec::new(), limits)
+    }
+
+    /// What has been written.
+    #[must_use]
+    pub fn finish(mut self) -> alloc::vec::Vec<u8> {
+        self.buffer.truncate(self.row[0] as usize);
+        self.buffer
+    }
+}
+
+#[cfg(feature = "alloc")]
+impl Default for CompactWriter<alloc::vec::Vec<u8>> {
+    fn default() -> Self {
+        Self::new()
+    }
+}
+
+impl<B: Buffer> CompactWriter<B> {
+    fn over(buffer: B, limits: TConfiguration) -> Self {
+        check_version();
+        CompactWriter { buffer, row: new_row(limits), ids: [0; IDS] }
     }
 
     /// The place of the next byte.
@@ -33,7 +145,7 @@ impl<'a> TCompactOutputProtocol<'a> {
 
     /// What has been written.
     pub fn written(&self) -> &[u8] {
-        &self.buffer[..self.place()]
+        &self.buffer.bytes()[..self.place()]
     }
 
     /// A message's header, from whose first byte the message is counted.

@@ -78,7 +78,7 @@ fn what_the_writer_refuses() {
     assert_eq!(write_day(&mut out[..20], b"abcde", &[3, 5]), Err(Refusal::NO_ROOM));
     assert_eq!(out, [0xaa; 21]);
     assert_eq!(write_day(&mut out, b"abcde", &[3, 5]), Ok(21));
-    assert_eq!(Refusal::BAD_DAY.to_string(), "refused 18: BAD DAY");
+    assert_eq!(Refusal::BAD_DAY.to_string().split(',').next(), Some("refused 18: BAD DAY"));
 }
 
 #[test]

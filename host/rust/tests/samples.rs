@@ -140,7 +140,7 @@ fn a_refusal_leaves_all_as_it_was() {
 
     let limits = TConfiguration { depth: 65, string: 0, container: 0, message: 0 };
     let refusal = TCompactInputProtocol::with_config(&[0], limits).read_i8().unwrap_err();
-    assert_eq!((refusal, refusal.number(), refusal.to_string()), (Refusal::BAD_STATE, 15, "refused 15: BAD STATE".to_string()));
+    assert_eq!((refusal, refusal.number(), refusal.to_string()), (Refusal::BAD_STATE, 15, format!("refused 15: BAD STATE, {}", Refusal::BAD_STATE.sentence())));
 }
 
 #[test]

@@ -1,0 +1,21 @@
+use borrow.Author.Needs.{needs}
+use Rattle.tagrumzil.proofs.Making.{plain-cases}
+use Rattle.tagrumzil.proofs.writing.tagrumzil_write_field_stop.Statement.{statement}
+use Rattle.tagrumzil.proofs.writing.tagrumzil_write_field_stop.Tie as tie
+
+pub tagrumzil-write-field-stop-spec : {M : Type 1} → statement M
+tagrumzil-write-field-stop-spec =
+    tie.close
+    (tie.spec
+    (λ c κs. search needs)
+    (λ c. search needs)
+    (λ c. search plain-cases)
+    (λ c κs. search needs)
+    (λ c. search needs)
+    (λ c. search plain-cases)
+    (λ c κs. search needs)
+    (λ c κs. search needs)
+    (λ c κs. search needs)
+    (λ c. search needs)
+    (λ c. search needs)
+    (λ c. search plain-cases))
