@@ -1,6 +1,7 @@
 pub mod Cases
 pub mod Walk
 pub mod Noted
+pub mod Passing
 pub mod Rows
 pub mod Call
 pub mod Laws

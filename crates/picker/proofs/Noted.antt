@@ -128,11 +128,3 @@ module _ (s : List ℕ) (lim : TConfiguration) (room : ℕ) (ids : List ℤ) (ki
 
 pub same-noted : (rows₀ rows rows′ : List ℕ) (id : ℤ) (code : ℕ) (r : Row) (ids : List ℤ) (kinds : List ℕ) → length rows ≡ length rows₀ → rows′ ≡ note id code r ids kinds 0 rows → length rows′ ≡ length rows₀
 same-noted rows₀ rows rows′ id code r ids kinds l e = ap length e ∙ note-length id code r ids kinds 0 rows ∙ l
-
--- a header takes a byte at least
-pub head-less : (s : List ℕ) (last : FieldId) (p : Place) (h : FieldHead) (t : TType) (id : FieldId) (m : Place) → h ≡ fieldAt s (last .0) (p .0) → h ≡ F.Value t id m → length s - m .0 < length s - p .0
-head-less s last p h t id m e g =
-    let i = head-later s (last .0) (p .0) _ (m .0) (head-read s (last .0) (p .0) h e (value t (id .0)) m g) in
-    omega arith
-
-pub ruleset struct-cases = (left-all, at-stop, at-refusal, on-bool, at-cut, on-value, same-noted, bool-less, value-less, head-less)

@@ -6,6 +6,7 @@ use mathlib.Core.List.{List, [], _∷_}
 use lib.Dec.{eqb}
 use lib.ListN.{getD, set}
 use lib.IntN.{ℤ}
+use lib.Signed.{ltZ}
 use Rattle.types.specs.Codes.{typeCode}
 use Rattle.types.specs.Value.{Tree, typeOf}
 use Rattle.skip.specs.Walk.{Entry}
@@ -39,3 +40,12 @@ noteAll ids kinds (f ∷ fs) at rows =
 unfoldable pub clear : ℕ → ℕ → List ℕ → List ℕ
 clear zero j rows = rows
 clear (suc n) j rows = clear n (suc j) (putRow j (kindAlone 0) rows)
+
+-- of two ids the lesser, if the first lies past `last`; else the second
+abbrev pub nearerOf : ℤ → ℤ → ℤ → ℤ
+nearerOf last i n = cond (ltZ last i) (cond (ltZ i n) i n) n
+
+-- the least id past `last` among those of a list and n
+unfoldable pub leastPast : ℤ → List ℤ → ℤ → ℤ
+leastPast last [] n = n
+leastPast last (i ∷ ids) n = leastPast last ids (nearerOf last i n)

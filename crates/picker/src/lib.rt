@@ -15,13 +15,16 @@ ghost use Rattle.input.specs.Outcome.{declines};
 ghost use Rattle.input.specs.Answers.{asDone};
 ghost use Rattle.skip.specs.Walk.{Entry, fields};
 ghost use Rattle.skip.specs.Value.{valueOf};
+ghost use Rattle.skip.specs.Leaves.{Onward};
 ghost use Rattle.picker.specs.Pick.{onStruct, forgets, written, pickCall, pickedRows};
-ghost use Rattle.picker.specs.Notes.{putRow, noteRow, note, noteAll, clear};
+ghost use Rattle.picker.specs.Notes.{putRow, noteRow, note, noteAll, clear, nearerOf, leastPast};
 use heads::FieldHead;
 use input::DoneAnswer;
 use input::ReadDone;
 use input::TCompactInputProtocol;
 use skip::Skipped;
+use skip::leaves::Run;
+use skip::leaves::skip_fields;
 use skip::skip_value;
 use types::FieldId;
 use types::Place;
@@ -127,7 +130,40 @@ fn truth_kind(truth: bool) -> usize
     FALSE
 }
 
-// The fields directly in a struct, each noted as the walk finds it.
+// Of two ids the lesser, if the first lies past `last`; else the second.
+fn nearer(last: FieldId, id: FieldId, next: FieldId) -> FieldId
+    ensures { λ r. ⌜ r .0 ≡ nearerOf (last .0) (id .0) (next .0) ⌝ }
+{
+    if last.0 < id.0 {
+        if id.0 < next.0 {
+            return id;
+        }
+        return next;
+    }
+    next
+}
+
+// The least wanted id past `last`: a field with an id between the two is in no row.
+fn next_wanted(ids: &[i16], last: FieldId) -> FieldId
+    ensures { λ r. ⌜ r .0 ≡ leastPast (last .0) (now (ids .entry)) (pos 32767) ⌝ }
+{
+    let mut next = FieldId(32767);
+    let mut j: usize = 0;
+    while j < ids.len() {
+        next = nearer(last, FieldId(ids[j]), next);
+        j = j + 1;
+    }
+    next
+}
+
+// Short fields before the next wanted id, passed over as skip passes over them.
+fn pass_unwanted(s: &[u8], at: Place, last: FieldId, ids: &[i16]) -> Run
+    ensures { λ r. ⌜ Onward (now (s .entry)) (at .0) (last .0) (leastPast (last .0) (now (ids .entry)) (pos 32767)) (r .place .0) (r .last .0) ⌝ }
+{
+    skip_fields(s, at, last, next_wanted(ids, last))
+}
+
+// The fields directly in a struct, each noted as the walk finds it, but for those that no row is for.
 fn note_struct(
     s: &[u8],
     at: Place,
@@ -143,6 +179,9 @@ fn note_struct(
     let mut p = at;
     let mut last = FieldId(0);
     loop {
+        let run = pass_unwanted(s, p, last, ids);
+        p = run.place;
+        last = run.last;
         match heads::read_field_begin(s, p, last) {
             FieldHead::Stop(_) => return,
             FieldHead::Refused(_) => return,

@@ -5,6 +5,7 @@ pub mod Runs
 pub mod Lawfuls
 pub mod Cycle
 pub mod Short
+pub mod Struct
 pub mod Complete
 pub mod Sound
 pub mod Least

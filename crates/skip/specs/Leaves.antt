@@ -1,22 +1,23 @@
 -- Inner vocabulary, for the contracts of functions behind skip alone; no promise cites it. Values that hold no other, many at a time: what their passing
 -- over comes to. Assumes nothing: these are definitions.
 use Prim.Native.Nat.{ℕ, zero, suc, _+_, _%_, _≤_}
+use mathlib.Core.Logic.{_⊎_}
 use mathlib.Core.Path.{_≡_}
 use mathlib.Core.Bool.{Bool, true, false, cond, _&&_}
 use mathlib.Core.List.{List}
 use lib.Dec.{eqb, ltb}
 use lib.ListN.{length, getD}
 use lib.IntN.{ℤ}
+use lib.Signed.{ltZ, leZ}
 use Rattle.types.specs.Refusals.{BAD-TYPE}
 use Rattle.types.specs.declared.TType.{TType}
 use Rattle.types.specs.declared.TType.the-variants as T
 use Rattle.types.specs.declared.TConfiguration.{TConfiguration}
 use Rattle.types.specs.Value as val
-use Rattle.numbers.specs.Varint.{groups}
-use Rattle.heads.specs.Reader.{Reader, done, andThen, some}
-use Rattle.heads.specs.Heads.{int16}
+use Rattle.numbers.specs.Varint.{got, groups}
+use Rattle.heads.specs.Reader.{Reader, done, andThen, some, readAt}
+use Rattle.heads.specs.Heads.{int16, bool, value, field}
 use Rattle.heads.specs.Answers.{place}
-use Rattle.skip.specs.Walk.{fields}
 use Rattle.skip.specs.Value.{valueOf}
 use Rattle.skip.specs.Skip.{past}
 use Rattle.skip.specs.declared.Skipped.{Skipped}
@@ -67,7 +68,20 @@ scalarOf s T.Uuid at = past (some 16) s at
 abbrev pub stopEnd : List ℕ → ℕ → ℕ
 stopEnd s at = cond (ltb at (length s) && eqb (getD s at 0 % 16) 0) (at + 1) at
 
--- the fields from one place and last id on are passed over as those from another, which lies no earlier
-pub record Onward (s : List ℕ) (at : ℕ) (last : ℤ) (p : ℕ) (id : ℤ) : Type 0 where
+-- One field that stands at a place behind the id `last`, whole whatever the limits: a bool in its header, or a value behind it. Its id is greater than `last` and below a bound.
+pub record Hop (s : List ℕ) (at : ℕ) (last below : ℤ) (p : ℕ) (id : ℤ) : Type 0 where
   pub later : at ≤ p
-  pub same : (lim : TConfiguration) (room : ℕ) → past (fields val.truth (valueOf lim room) id) s p ≡ past (fields val.truth (valueOf lim room) last) s at
+  pub after : ltZ last id ≡ true
+  pub before : leZ below id ≡ false
+  pub found :
+      ((b : Bool) × (readAt (field last) s at ≡ got (bool b id) p))
+      ⊎ ((t : TType) × (m : ℕ) × (readAt (field last) s at ≡ got (value t id) m) × ((lim : TConfiguration) (room : ℕ) → (v : val.Tree) × (readAt (valueOf lim room t) s m ≡ got v p)))
+
+-- n of them, one behind the other, from one place and id to another
+unfoldable pub Hops : ℕ → List ℕ → ℕ → ℤ → ℤ → ℕ → ℤ → Type 0
+Hops zero s at last below p id = (p ≡ at) × (id ≡ last)
+Hops (suc n) s at last below p id = (q : ℕ) × (z : ℤ) × Hop s at last below q z × Hops n s q z below p id
+
+pub record Onward (s : List ℕ) (at : ℕ) (last below : ℤ) (p : ℕ) (id : ℤ) : Type 0 where
+  pub many : ℕ
+  pub hops : Hops many s at last below p id

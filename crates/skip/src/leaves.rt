@@ -19,9 +19,9 @@ use types::TConfiguration;
 use types::TType;
 
 // Where a run of fields has led: the place behind it, and the last field's id.
-pub(crate) struct Run {
-    pub(crate) place: Place,
-    pub(crate) last: FieldId,
+pub struct Run {
+    pub place: Place,
+    pub last: FieldId,
 }
 
 // Whether a value of the type holds no other.
@@ -280,9 +280,10 @@ pub(crate) fn past_stop(s: &[u8], at: Place) -> Place
     at
 }
 
-// One field, if its header is short and its value a scalar that is whole; else no step is taken, and what comes here, a refusal too, is left to who reads on.
-fn skip_field(s: &[u8], at: Place, last: FieldId) -> Run
-    ensures { λ r. ⌜ Onward (now (s .entry)) (at .0) (last .0) (r .place .0) (r .last .0) ⌝ }
+// One field, if its header is short, its id below a bound and its value a scalar that is whole; else no step is taken, and what comes here, a refusal too, is
+// left to who reads on.
+fn skip_field(s: &[u8], at: Place, last: FieldId, below: FieldId) -> Run
+    ensures { λ r. ⌜ Onward (now (s .entry)) (at .0) (last .0) (below .0) (r .place .0) (r .last .0) ⌝ }
 {
     let here = Run { place: at, last };
     let p = at.0;
@@ -295,7 +296,7 @@ fn skip_field(s: &[u8], at: Place, last: FieldId) -> Run
         return here;
     }
     let sum = (last.0 as i32) + (delta as i32);
-    if 32767 < sum {
+    if (below.0 as i32) <= sum {
         return here;
     }
     let id = FieldId(sum as i16);
@@ -313,14 +314,14 @@ fn skip_field(s: &[u8], at: Place, last: FieldId) -> Run
     }
 }
 
-// As many such fields as there are. Most structs are a run of them and a stop, and no call of another function is left in this loop.
-pub(crate) fn skip_fields(s: &[u8], at: Place, last: FieldId) -> Run
-    ensures { λ r. ⌜ Onward (now (s .entry)) (at .0) (last .0) (r .place .0) (r .last .0) ⌝ }
+// As many such fields as there are: whoever looks for an id passes over those before it so. Most structs are a run of them and a stop, and no call of another function is left in this loop.
+pub fn skip_fields(s: &[u8], at: Place, last: FieldId, below: FieldId) -> Run
+    ensures { λ r. ⌜ Onward (now (s .entry)) (at .0) (last .0) (below .0) (r .place .0) (r .last .0) ⌝ }
 {
     let mut p = at;
     let mut id = last;
     while p.0 < s.len() {
-        let next = skip_field(s, p, id);
+        let next = skip_field(s, p, id, below);
         if next.place.0 <= p.0 {
             return Run { place: p, last: id };
         }

@@ -29,7 +29,7 @@ use types::Place;
 use types::TConfiguration;
 use types::TType;
 
-mod leaves;
+pub mod leaves;
 
 // The place behind the value, or the number of a refusal.
 pub enum Skipped {
@@ -160,7 +160,7 @@ fn skip_struct(s: &[u8], at: Place, room: usize, limits: TConfiguration) -> Skip
     let mut p = at;
     let mut last = FieldId(0);
     loop {
-        let run = leaves::skip_fields(s, p, last);
+        let run = leaves::skip_fields(s, p, last, FieldId(32767));
         p = run.place;
         last = run.last;
         let end = leaves::past_stop(s, p);

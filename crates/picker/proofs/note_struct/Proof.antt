@@ -3,7 +3,7 @@ use mathlib.Core.Path.{_≡_}
 use Prim.Native.Nat.{_-_}
 use lib.ListN.{length}
 use Rattle.picker.proofs.Noted.{Left}
-use Rattle.picker.proofs.Noted.{struct-cases}
+use Rattle.picker.proofs.Passing.{struct-cases}
 use Rattle.picker.proofs.note_struct.Statement.{statement}
 use Rattle.picker.proofs.note_struct.Tie as tie
 
@@ -20,6 +20,7 @@ note-struct-spec =
     Inv-loop
     μ-loop
     (λ c. (search (needs, struct-cases), search (needs, struct-cases)))
+    (λ c κs. search (needs, struct-cases))
     (λ c κs. search (needs, struct-cases))
     (λ c. search (needs, struct-cases))
     (λ c. search (needs, struct-cases))

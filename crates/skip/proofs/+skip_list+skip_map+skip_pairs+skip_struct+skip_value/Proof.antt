@@ -8,7 +8,8 @@ use Rattle.types.specs.Value.{truth}
 use Rattle.skip.specs.Walk.{fields}
 use Rattle.skip.specs.Value.{many, manyPairs, valueOf}
 use Rattle.skip.specs.Skip.{past}
-use Rattle.skip.proofs.Cycle.{list-cases, pairs-cases, map-cases, struct-cases, value-cases, run-less}
+use Rattle.skip.proofs.Cycle.{list-cases, pairs-cases, map-cases, value-cases}
+use Rattle.skip.proofs.Struct.{struct-cases, run-less}
 use borrow.Fn.Kinds.{In}
 use borrow.Fn.PlainCycle.{Measures, is, falls, and}
 use Rattle.skip.proofs.skip_list.Reads as skip-list

@@ -7,13 +7,14 @@ pub skip-field-spec : {M : Type 1} → statement M
 skip-field-spec =
     tie.close
     (tie.spec
-    (λ c. search needs)
-    (λ c. search needs)
+    (λ c. search short-cases)
     (λ c. search needs)
     (λ c. search short-cases)
     (λ c. search short-cases)
     (λ c. search short-cases)
-    (λ c. search needs)
+    (λ c. search short-cases)
+    (λ c. search short-cases)
+    (λ c. search short-cases)
     (λ c. search short-cases)
     (λ c κs. search needs)
     (λ c. search needs)
@@ -27,6 +28,6 @@ skip-field-spec =
     (λ c. search needs)
     (λ c. search short-cases)
     (λ c. search short-cases)
-    (λ c. search needs)
-    (λ c. search needs)
-    (λ c. search needs))
+    (λ c. search short-cases)
+    (λ c. search short-cases)
+    (λ c. search short-cases))

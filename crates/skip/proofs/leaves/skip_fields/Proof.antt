@@ -7,10 +7,10 @@ use Rattle.skip.proofs.leaves.skip_fields.Statement.{statement}
 use Rattle.skip.proofs.leaves.skip_fields.Tie as tie
 
 abbrev Inv-loop : tie.InvT-loop
-Inv-loop s p₀ id₀ p id = Onward s (p₀ .0) (id₀ .0) (p .0) (id .0)
+Inv-loop s below p₀ id₀ p id = Onward s (p₀ .0) (id₀ .0) (below .0) (p .0) (id .0)
 
 abbrev μ-loop : tie.MeasureT-loop
-μ-loop s p₀ id₀ p id = length s - p .0
+μ-loop s below p₀ id₀ p id = length s - p .0
 
 pub skip-fields-spec : {M : Type 1} → statement M
 skip-fields-spec =
