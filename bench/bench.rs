@@ -275,6 +275,12 @@ fn main() {
         let a = best(|| drop(black_box(TCompactInputProtocol::new(black_box(&s[..])).skip(TType::Struct))));
         line(what, a, best(|| drop(black_box(why(black_box(s))))));
     }
+    // The doubles that an f32 holds, beside the port's own skip, which may take half the time.
+    let counts = |s: &[u8]| port::TCompactInputProtocol::new(s).f32_counts();
+    assert_eq!(counts(&trial).map(|c| c.all()), Ok(3 * POINTS as u64));
+    let own = best(|| drop(black_box(port::skip(black_box(&trial), port::TType::Struct))));
+    let counted = best(|| drop(black_box(counts(black_box(&trial)))));
+    println!("| counting the trial's doubles for f32, {:.2} times skip | – | {:.1} | – |", counted / own, counted / 1000.0);
     line("reading the trial call by call", best(|| drop(black_box(crate_reads(black_box(&trial))))), best(|| drop(black_box(port_reads(black_box(&trial))))));
     line("writing it", best(|| drop(black_box(crate_writes(&mut theirs)))), best(|| drop(black_box(port_writes(&mut buffer)))));
     frame_lines(&trial);

@@ -358,6 +358,7 @@ struct Tally {
     picked: u64,
     framed: u64,
     asked: u64,
+    settled: u64,
     wrote: BTreeMap<&'static str, u64>,
     differences: BTreeMap<&'static str, u64>,
     refusals: [u64; 20],
@@ -863,6 +864,62 @@ fn whys(t: &mut Tally, r: &mut Rng, s: &[u8], limits: port::TConfiguration) {
     }
 }
 
+// ------------------------------------------------------------------ f32
+
+/// Whether an f32 holds the number of these bits, by Rust's own casts: 0 yes, 1 no, 2 not a number.
+fn settled(bits: u64) -> u8 {
+    let double = f64::from_bits(bits);
+    if double.is_nan() {
+        return 2;
+    }
+    u8::from(f64::from(double as f32) != double)
+}
+
+/// Both f32 calls on a struct: they refuse and move as skip does, the answers are those of these doubles, where they are known, and the counts are the answers'.
+fn singles(t: &mut Tally, s: &[u8], limits: port::TConfiguration, doubles: Option<&[u64]>) {
+    t.settled += 1;
+    let reader = port::TCompactInputProtocol::with_config(s, limits);
+    let (mut skipped, mut counted, mut answered) = (reader.clone(), reader.clone(), reader);
+    let mut row = vec![9; s.len() / 8 + 1];
+    let (a, b, c) = (skipped.skip(port::TType::Struct), counted.f32_counts(), answered.f32_answers(&mut row));
+    if (a.err(), a.err(), skipped.place(), skipped.place()) != (b.err(), c.err(), counted.place(), answered.place()) {
+        t.fail(format!("limits {limits:?} on {s:02x?}: skip {a:?}, counts {b:?}, answers {c:?}"));
+    }
+    let (Ok(b), Ok(n)) = (b, c) else {
+        if row.iter().any(|x| *x != 9) {
+            t.fail(format!("limits {limits:?} on {s:02x?}: answers in a refused call's row"));
+        }
+        return;
+    };
+    let count = |k: u8| row[..n].iter().filter(|x| **x == k).count() as u64;
+    if (b.yes, b.no, b.nan, b.all()) != (count(0), count(1), count(2), n as u64) || row[n..].iter().any(|x| *x != 9) {
+        t.fail(format!("limits {limits:?} on {s:02x?}: {b:?} and {:?}", &row[..n]));
+    }
+    if let Some(doubles) = doubles {
+        if row[..n] != doubles.iter().map(|d| settled(*d)).collect::<Vec<u8>>()[..] {
+            t.fail(format!("on {s:02x?}: {:?} of {doubles:016x?}", &row[..n]));
+        }
+    }
+}
+
+/// Patterns around every edge of the rule, and anywhere, a list of them at a time.
+fn patterns(t: &mut Tally, r: &mut Rng, lists: u64) {
+    for _ in 0..lists {
+        let doubles: Vec<u64> = (0..4096)
+            .map(|_| match r.below(4) {
+                0 => r.next(),
+                1 => f64::from(f32::from_bits(r.next() as u32)).to_bits(),
+                2 => f64::from(f32::from_bits(r.next() as u32)).to_bits() ^ (1 << r.below(64)),
+                _ => r.below(2) << 63 | r.pick(&[0, 1, 872, 873, 874, 896, 897, 1022, 1023, 1150, 1151, 2046, 2047]) << 52 | (r.next() & ((1 << 52) - 1)) >> r.below(52) << r.below(52) & ((1 << 52) - 1),
+            })
+            .collect();
+        let mut s = vec![0x19, 0xF7, 0x80, 0x20];
+        doubles.iter().for_each(|d| s.extend(d.to_le_bytes()));
+        s.push(0);
+        singles(t, &s, WIDE, Some(&doubles));
+    }
+}
+
 // ------------------------------------------------------------------ the run
 
 const WIDE: port::TConfiguration = port::TConfiguration { depth: 64, string: i32::MAX as u32, container: i32::MAX as u32, message: i32::MAX as u32 };
@@ -1079,14 +1136,17 @@ fn main() {
             }
         }
     }
+    // doubles that an f32 holds or not: 8 million patterns
+    patterns(&mut t, &mut r, 2000);
     // random bytes, and whole messages, by each side, and damaged copies of them
-    let total = |t: &Tally| t.read.iter().sum::<u64>() + t.wrote.values().sum::<u64>() + t.picked + t.framed + t.asked;
+    let total = |t: &Tally| t.read.iter().sum::<u64>() + t.wrote.values().sum::<u64>() + t.picked + t.framed + t.asked + t.settled;
     while total(&t) < millions * 1_000_000 {
         let s: Vec<u8> = (0..r.below(12)).map(|_| if r.below(3) == 0 { r.pick(&[0, 1, 2, 0x7F, 0x80, 0xFF, 0x82, 0x21, 0x15, 0x1C, 0x19]) } else { r.next() as u8 }).collect();
         let limits = if r.below(2) == 0 { WIDE } else { some_limits(&mut r) };
         every_call(&mut t, &s, limits);
         frames(&mut t, &mut r, &s, limits);
         whys(&mut t, &mut r, &s, limits);
+        singles(&mut t, &s, limits, None);
 
         let kind = r.pick(&[11, 11, 11, 8, 9, 10]);
         let value = tree(&mut r, kind, 4);
@@ -1110,6 +1170,8 @@ fn main() {
             let (mut w, mut c) = (Vec::new(), Vec::new());
             calls(&value, &mut w, &mut c);
             if let Some(own) = writes(&mut t, &w, WIDE, 1 << 16) {
+                let doubles: Vec<u64> = w.iter().filter_map(|w| if let W::Double(d) = w { Some(*d) } else { None }).collect();
+                singles(&mut t, &own, WIDE, Some(&doubles));
                 for i in 0..12 {
                     let mut s = own.clone();
                     if i > 5 {
@@ -1118,6 +1180,7 @@ fn main() {
                     }
                     let limits = if i % 3 == 0 { some_limits(&mut r) } else { WIDE };
                     picks(&mut t, &mut r, &s, limits);
+                    singles(&mut t, &s, limits, None);
                     if i == 8 { s.truncate(r.below(own.len() as u64) as usize) }
                     if i % 2 == 0 { frames(&mut t, &mut r, &s, limits) }
                     if i % 2 == 0 {
@@ -1207,6 +1270,7 @@ fn main() {
     println!("pick: {}", t.picked);
     println!("frame in bursts: {}", t.framed);
     println!("why: {}", t.asked);
+    println!("f32: {}", t.settled);
     for (n, k) in t.refusals.iter().enumerate().filter(|x| *x.1 > 0) {
         println!("refused {n}: {k}");
     }

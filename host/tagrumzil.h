@@ -176,6 +176,14 @@ TAGRUMZIL_LOOK uint8_t tagrumzil_pick(const uint8_t *s, size_t n, uint64_t *row,
 enum { TAGRUMZIL_FIELD = 0, TAGRUMZIL_ELEMENT = 1, TAGRUMZIL_KEY = 2, TAGRUMZIL_VALUE = 3, TAGRUMZIL_PATH = 128 };
 TAGRUMZIL_LOOK uint8_t tagrumzil_why(const uint8_t *s, size_t n, const uint64_t *row, size_t m, int64_t *path, size_t j, size_t *offset, size_t *steps);
 
+/* Whether an f32 holds the very number of each double in the struct at the reader's place, in map keys and inner structs too. tagrumzil_f32_counts says how many it
+ * holds, how many it does not, and how many are not a number; a refused call leaves the three as they were. tagrumzil_f32_answers puts an answer for each into (answers, j), in the
+ * order of the bytes, and their number into *count: TAGRUMZIL_NO_ROOM where j is less, and nothing is written then. Both answer and move the reader as a skip of
+ * the struct does. */
+enum { TAGRUMZIL_F32_YES = 0, TAGRUMZIL_F32_NO = 1, TAGRUMZIL_F32_NAN = 2 };
+uint8_t tagrumzil_f32_counts(const uint8_t *s, size_t n, uint64_t *row, size_t m, uint64_t *yes, uint64_t *no, uint64_t *nan);
+uint8_t tagrumzil_f32_answers(const uint8_t *s, size_t n, uint64_t *row, size_t m, uint8_t *answers, size_t j, size_t *count);
+
 /* ---- The writer. (buf, n) is the buffer, (row, m) the state. A refused call has written nothing. */
 
 /* A message's header. The name is UTF-8 and within the limit on strings. The message is counted from the header's first byte. */

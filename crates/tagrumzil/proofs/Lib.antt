@@ -8,3 +8,4 @@ pub mod Bared
 pub mod Picked
 pub mod Told
 pub mod Whole
+pub mod Singles

@@ -6,4 +6,5 @@ mod frames;
 mod nested;
 mod picking;
 mod reading;
+mod settling;
 mod writing;

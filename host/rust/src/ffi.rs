@@ -35,6 +35,9 @@ extern "C" {
 
     pub fn tagrumzil_why(s: *const u8, n: usize, row: *const u64, m: usize, path: *mut i64, j: usize, offset: *mut usize, steps: *mut usize) -> u8;
 
+    pub fn tagrumzil_f32_counts(s: *const u8, n: usize, row: *mut u64, m: usize, yes: *mut u64, no: *mut u64, nan: *mut u64) -> u8;
+    pub fn tagrumzil_f32_answers(s: *const u8, n: usize, row: *mut u64, m: usize, answers: *mut u8, j: usize, count: *mut usize) -> u8;
+
     pub fn tagrumzil_write_message_begin(buf: *mut u8, n: usize, row: *mut u64, m: usize, kind: u8, sequence: i32, name: *const u8, k: usize) -> u8;
     pub fn tagrumzil_write_struct_begin(buf: *mut u8, n: usize, row: *mut u64, m: usize, ids: *mut i16, k: usize) -> u8;
     pub fn tagrumzil_write_struct_end(buf: *mut u8, n: usize, row: *mut u64, m: usize, ids: *const i16, k: usize) -> u8;

@@ -35,6 +35,7 @@ mod frame;
 mod number;
 mod reader;
 mod refusal;
+mod single;
 mod types;
 mod writer;
 
@@ -46,6 +47,7 @@ pub use fault::{Fault, Step};
 pub use number::{i32_to_zigzag, i64_to_zigzag, read_i16, read_le64, read_varint32, read_varint64, varint_len, write_varint, zigzag_to_i32, zigzag_to_i64};
 pub use reader::{skip, Picked, PickedField, TCompactInputProtocol};
 pub use refusal::Refusal;
+pub use single::{F32Answer, F32Counts};
 pub use types::{TConfiguration, TFieldIdentifier, TListIdentifier, TMapIdentifier, TMessageIdentifier, TMessageType, TType};
 #[cfg(feature = "alloc")]
 pub use writer::GrowingOutputProtocol;

@@ -61,6 +61,10 @@ impl<'a> TCompactInputProtocol<'a> {
         (self.input, &self.row)
     }
 
+    pub(crate) fn input_and_row_mut(&mut self) -> (&'a [u8], &mut [u64; ROW]) {
+        (self.input, &mut self.row)
+    }
+
     // A type that was read has its number, by the call's contract.
     #[inline]
     fn kind(number: u8) -> TType {

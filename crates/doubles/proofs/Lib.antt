@@ -1,0 +1,6 @@
+pub mod Sheets
+pub mod Cases
+pub mod Call
+pub mod Few
+pub mod Answers
+pub mod Theorems

@@ -1,0 +1,3 @@
+pub mod Doubles
+pub mod Walked
+pub mod Calls
