@@ -1,0 +1,3 @@
+pub mod Big
+pub mod Cases
+pub mod Got

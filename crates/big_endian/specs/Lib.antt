@@ -1,0 +1,3 @@
+pub mod Big
+pub mod Answers
+pub mod Numbers

@@ -1,0 +1,4 @@
+pub mod Heads
+pub mod Words
+pub mod Answers
+pub mod Numbers

@@ -1,0 +1,19 @@
+use borrow.Author.Needs.{needs}
+use Rattle.binary_input.proofs.Cases.{list-cases}
+use Rattle.binary_input.proofs.TBinaryInputProtocol.read_list_begin.Statement.{statement}
+use Rattle.binary_input.proofs.TBinaryInputProtocol.read_list_begin.Tie as tie
+
+pub read-list-begin-spec : {M : Type 1} → statement M
+read-list-begin-spec =
+    tie.close
+    (tie.spec
+    (λ c κs. search needs)
+    (λ c. search list-cases)
+    (λ c κs. search needs)
+    (λ c. search list-cases)
+    (λ c κs. search needs)
+    (λ c. search needs)
+    (λ c κs. search needs)
+    (λ c. search needs)
+    (λ c. search list-cases)
+    (λ c. search list-cases))

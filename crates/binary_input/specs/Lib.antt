@@ -1,0 +1,4 @@
+pub mod State
+pub mod Outcome
+pub mod Answers
+pub mod Calls

@@ -1,0 +1,1 @@
+// No code: the laws over several crates of the binary protocol.

@@ -1,0 +1,5 @@
+pub mod Checks
+pub mod Cases
+pub mod Laws
+pub mod Stays
+pub mod Given

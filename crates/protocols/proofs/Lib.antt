@@ -1,0 +1,9 @@
+pub mod Owes
+pub mod Walks
+pub mod Same
+pub mod Sound
+pub mod Least
+pub mod Complete
+pub mod Lawfuls
+pub mod Theorems
+pub mod Compact

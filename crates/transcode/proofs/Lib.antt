@@ -1,0 +1,10 @@
+pub mod Readable
+pub mod Suits
+pub mod Back
+pub mod Ranges
+pub mod Both
+pub mod Instances
+pub mod Return
+pub mod Accepted
+pub mod Samples
+pub mod Call
