@@ -1,0 +1,2 @@
+pub mod Unknown
+pub mod Finite

@@ -1,0 +1,1 @@
+// Why unknown fields change no replay; no code.
