@@ -181,8 +181,8 @@ TAGRUMZIL_LOOK uint8_t tagrumzil_why(const uint8_t *s, size_t n, const uint64_t 
  * order of the bytes, and their number into *count: TAGRUMZIL_NO_ROOM where j is less, and nothing is written then. Both answer and move the reader as a skip of
  * the struct does. */
 enum { TAGRUMZIL_F32_YES = 0, TAGRUMZIL_F32_NO = 1, TAGRUMZIL_F32_NAN = 2 };
-uint8_t tagrumzil_f32_counts(const uint8_t *s, size_t n, uint64_t *row, size_t m, uint64_t *yes, uint64_t *no, uint64_t *nan);
-uint8_t tagrumzil_f32_answers(const uint8_t *s, size_t n, uint64_t *row, size_t m, uint8_t *answers, size_t j, size_t *count);
+TAGRUMZIL_LOOK uint8_t tagrumzil_f32_counts(const uint8_t *s, size_t n, uint64_t *row, size_t m, uint64_t *yes, uint64_t *no, uint64_t *nan);
+TAGRUMZIL_LOOK uint8_t tagrumzil_f32_answers(const uint8_t *s, size_t n, uint64_t *row, size_t m, uint8_t *answers, size_t j, size_t *count);
 
 /* ---- The writer. (buf, n) is the buffer, (row, m) the state. A refused call has written nothing. */
 

@@ -153,6 +153,39 @@ static void whole_structs(void)
     expect("  path", 2, (unsigned) path[3]);
 }
 
+/* A struct with the doubles 0.5 (yes), 16,777,217 (no) twice and a NaN. */
+static void singles(void)
+{
+    static const uint8_t doubles[] = {
+        7, 0x39, 0x47, 0, 0, 0, 0, 0, 0, 0xe0, 0x3f, 0, 0, 0, 0x10, 0, 0, 0x70, 0x41, 0, 0, 0, 0x10, 0, 0, 0x70, 0x41, 1, 0, 0, 0, 0, 0, 0xf8, 0x7f, 0};
+    uint64_t yes = 99, no = 99, nan = 99;
+    uint8_t answers[5] = {77, 77, 77, 77, 77};
+    size_t count = 99;
+
+    stand(1);
+    expect("f32 counts", 0, tagrumzil_f32_counts(doubles, sizeof doubles, ROW, &yes, &no, &nan));
+    expect("  yes and nan", 1, (unsigned) (yes == nan ? yes : 99));
+    expect("  no", 2, (unsigned) no);
+    expect("  place", sizeof doubles, (unsigned) row[0]);
+    stand(1);
+    expect("f32 answers", 0, tagrumzil_f32_answers(doubles, sizeof doubles, ROW, answers, 5, &count));
+    expect("  count", 4, (unsigned) count);
+    expect("  answers", 0, (unsigned) memcmp(answers, "\0\1\1\2M", 5));
+}
+
+/* A struct with a double that an f32 holds, and two that are not a number. */
+static void nans(void)
+{
+    static const uint8_t doubles[] = {0x39, 0x37, 0, 0, 0, 0, 0, 0, 0xe0, 0x3f, 1, 0, 0, 0, 0, 0, 0xf8, 0x7f, 1, 0, 0, 0, 0, 0, 0xf8, 0x7f, 0};
+    uint64_t yes = 99, no = 99, nan = 99;
+
+    stand(0);
+    expect("f32 counts", 0, tagrumzil_f32_counts(doubles, sizeof doubles, ROW, &yes, &no, &nan));
+    expect("  yes", 1, (unsigned) yes);
+    expect("  no", 0, (unsigned) no);
+    expect("  nan", 2, (unsigned) nan);
+}
+
 /* What a call of the writer at place 1 of a buffer leaves there. */
 static uint8_t buf[24];
 
@@ -225,6 +258,8 @@ int main(void)
     numbers();
     reader();
     whole_structs();
+    singles();
+    nans();
     writer();
     days_and_frames();
     return failed;

@@ -1,4 +1,4 @@
-// A frame's state in a lent row of numbers: what the frame exports of `host` are made of. Its enums cross as numbers, each form by one of its own.
+// A frame's state in a lent row of numbers: what the frame exports of `tagrumzil` are made of. Its enums cross as numbers, each form by one of its own.
 use frame::Goal;
 use frame::Nest;
 use frame::Now;

@@ -1,7 +1,7 @@
 -- Every promise of specs/Promises.antt, kept: each by the law that has it. Assumes nothing.
-use mathlib.Core.Path.{_≡_, refl, sym, ap, ap₂, subst, _∙_}
-use mathlib.Core.List.{List, [], _∷_, _++_}
-use Prim.Native.Nat.{ℕ, _-_, _≤_}
+use mathlib.Core.Path.{_≡_, refl, sym, ap, _∙_}
+use mathlib.Core.List.{[], _∷_, _++_}
+use Prim.Native.Nat.{_-_}
 use native.Mathlib.Omega.{arith}
 use borrow.Author.Tests.{le-leb}
 use lib.ListN.{length}
@@ -9,12 +9,10 @@ use Rattle.types.specs.declared.TType.the-variants as T
 use Rattle.types.specs.Value.{Tree}
 use Rattle.types.proofs.Limits.{ranged}
 use Rattle.zigzag.proofs.Zig.{un-zig, zig-un}
-use Rattle.numbers.specs.Varint.{Found, got}
+use Rattle.numbers.specs.Varint.{got}
 use Rattle.numbers.proofs.Fewest.{shortest}
 use Rattle.puts.proofs.Most.{i16-most, i32-most, i64-most}
-use Rattle.skip.specs.Skip.{skipTo, skipCall}
-use Rattle.skip.specs.declared.Skipped.{Skipped}
-use Rattle.skip.specs.declared.Skipped.the-variants as S
+use Rattle.skip.specs.Skip.{skipCall}
 use Rattle.skip.proofs.Theorems.{reads, one-tree}
 use Rattle.skip.proofs.Call.{call-exact}
 use Rattle.picker.proofs.Laws.{as-skip-call, rows-kept}
@@ -24,15 +22,9 @@ use Rattle.lines.specs.Lines as line
 use Rattle.printer.specs.Printing as printer
 use Rattle.print_laws.specs.Tree.{itemsOf}
 use Rattle.print_laws.proofs.Text.{well-formed, ill-formed}
-use Rattle.faults.proofs.States as there
-use Rattle.days.specs.Day.{joined}
-use Rattle.days.proofs.Rules.{accepted-exactly}
-use Rattle.days.proofs.Files.{accepted-lists, one-list}
-use Rattle.frame.specs.declared.FrameSkip.{FrameSkip}
-use Rattle.frame.proofs.Bursts as bursts
 use Rattle.promises.specs.Reads as read
-use Rattle.promises.specs.Promises.{ReaderRefuses, WriterRefuses, PickerRefuses, ReaderSound, ReaderStaysSound, WriterSound, WriterStaysSound, ReaderTurn, WriterTurn, ReaderGives, WriterGives, InnerGives, Zigzags, Fewest, AtMost, FormedWithin, WithinFormed, OneTree, ValueWritten, ValueRead, MessageWritten, MessageRead, ReadExactly, SkipExactly, SkipDeep, BehindNoSay, InTheInput, PicksAsSkip, PicksLast, UnknownUnmoved, CountsFields, TableT, PrintsTree, PrintsRefusal, PrintsCut, Fed, asSkip, FrameAsSkip, FrameWhole, FrameStays, DayAccepted, DayGives, DayLists, DayOneList, FaultAsSkip, FaultBehind, FaultFirst, FaultPath, FaultFew, ReaderExports, ReaderExportsAll, WriterExports, WriterExportsAll}
-use Rattle.promises.proofs.Within.{by-place, formed-within}
+use Rattle.promises.specs.Promises.{ReaderRefuses, WriterRefuses, PickerRefuses, ReaderSound, ReaderStaysSound, WriterSound, WriterStaysSound, ReaderTurn, WriterTurn, ReaderGives, WriterGives, InnerGives, Zigzags, Fewest, AtMost, FormedWithin, WithinFormed, OneTree, ValueWritten, ValueRead, MessageWritten, MessageRead, ReadExactly, SkipExactly, SkipDeep, BehindNoSay, InTheInput, PicksAsSkip, PicksLast, UnknownUnmoved, CountsFields, TableT, PrintsTree, PrintsRefusal, PrintsCut, ReaderExports, ReaderExportsAll, WriterExports, WriterExportsAll}
+use Rattle.promises.proofs.Within.{formed-within}
 use Rattle.promises.proofs.Reader as reader
 use Rattle.promises.proofs.Writer as writer
 use Rattle.promises.proofs.Anywhere as anywhere
@@ -177,67 +169,6 @@ prints-refusal s m k why short h e = ill-formed s short m k h why e
 
 pub prints-cut : PrintsCut
 prints-cut = cut-lines
-
--- frames
-same-fed : (f g : FrameSkip) (bss : List (List ℕ)) → Fed f bss g → bursts.Fed f bss g
-same-fed f g [] e = e
-same-fed f g (bs ∷ bss) (r, t, e) = (r, t, same-fed (r .state) g bss e)
-
-same-joined : (bss : List (List ℕ)) → bursts.joined bss ≡ joined bss
-same-joined [] = refl
-same-joined (bs ∷ bss) = ap (λ (l : List ℕ). bs ++ l) (same-joined bss)
-
-same-skip : (x : Skipped) → bursts.skipAnswer x ≡ asSkip x
-same-skip (S.Done e) = refl
-same-skip (S.Refused why) = refl
-
-pub frame-as-skip : FrameAsSkip
-frame-as-skip lim announced f g bss cs ds r i b e t m n =
-    let j = same-joined bss in
-    sym (bursts.early lim announced i f b bss g (same-fed f g bss e) cs ds r t m (ap (λ (l : List ℕ). length ((l ++ cs) ++ ds)) j ∙ n))
-    ∙ ap (λ (l : List ℕ). bursts.skipAnswer (skipTo ((l ++ cs) ++ ds) (lim .message) lim (lim .depth) T.Struct 0)) j
-    ∙ same-skip (skipTo ((joined bss ++ cs) ++ ds) (lim .message) lim (lim .depth) T.Struct 0)
-
-pub frame-whole : FrameWhole
-frame-whole lim announced f g bss cs r i b e t n =
-    let j = same-joined bss in
-    bursts.whole-cut lim announced i f b bss g (same-fed f g bss e) cs r t (ap (λ (l : List ℕ). length (l ++ cs)) j ∙ n)
-    ∙ ap (λ (l : List ℕ). bursts.skipAnswer (skipTo (l ++ cs) (lim .message) lim (lim .depth) T.Struct 0)) j
-    ∙ same-skip (skipTo (joined bss ++ cs) (lim .message) lim (lim .depth) T.Struct 0)
-
-pub frame-stays : FrameStays
-frame-stays = bursts.final-stays
-
--- the day file
-pub day-accepted : DayAccepted
-day-accepted = accepted-exactly
-
-pub day-gives : DayGives
-day-gives file k = (inner.check-gives file, inner.part-gives file k)
-
-pub day-lists : DayLists
-day-lists file h = accepted-lists file (by-place file h)
-
-pub day-one-list : DayOneList
-day-one-list = one-list
-
--- where a refusal came from
-pub fault-as-skip : FaultAsSkip
-fault-as-skip s st =
-    (λ e f. sym (there.faults-skip s st) ∙ ap (there.overOf s st) f, λ why off path f. sym (there.faults-skip s st) ∙ ap (there.overOf s st) f)
-
-pub fault-behind : FaultBehind
-fault-behind s t st why off path e q l = there.faults-behind s st why off path e t q l
-
-pub fault-first : FaultFirst
-fault-first s st why off path e g =
-    (there.faults-inside s st why off path e g, there.faults-first s st why off path e g, λ t q l d k f. there.faults-none-so-long s st why off path e g t q l d k f)
-
-pub fault-path : FaultPath
-fault-path s st why off path e g = let b = there.faults-breaks s st why off path e g in (b .number, b .read, b .way, b .told, b .offset)
-
-pub fault-few : FaultFew
-fault-few = there.faults-few
 
 -- the exports
 pub reader-exports : ReaderExports

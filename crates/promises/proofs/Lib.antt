@@ -11,4 +11,5 @@ pub mod Counts
 pub mod Inner
 pub mod Exported
 pub mod Kept
+pub mod KeptRequests
 pub mod Samples

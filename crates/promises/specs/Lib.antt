@@ -4,3 +4,4 @@ pub mod Standing
 pub mod ReaderRows
 pub mod WriterRows
 pub mod Promises
+pub mod Requests

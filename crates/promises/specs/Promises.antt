@@ -1,17 +1,18 @@
--- What is promised, in the order of the scope paper (docs/SCOPE.md), each promise with its sentence; proofs/Kept.antt proves every one of
+-- What is promised, in the order of the scope paper (docs/SCOPE.md), each promise with its sentence; what later requests have added has a page of
+-- its own, Requests.antt. proofs/Kept.antt proves every one of
 -- them. That each call ends, and answers as its definition says for every input, is its contract, in src/ of its crate. Assumes nothing:
 -- these are definitions.
-use Prim.Native.Nat.{ℕ, suc, _+_, _*_, _-_, _≤_, _<_, _^_}
+use Prim.Native.Nat.{ℕ, suc, _+_, _*_, _-_, _≤_, _<_}
 use mathlib.Core.Path.{_≡_}
 use mathlib.Core.Bool.{Bool, true, false, _||_}
 use mathlib.Core.Logic.{_↔_}
 use mathlib.Core.List.{List, [], _∷_, _++_}
-use lib.Dec.{eqb, leb, ltb}
+use lib.Dec.{eqb, leb}
 use lib.IntN.{ℤ, pos}
-use lib.ListN.{length, take, drop}
+use lib.ListN.{length, take}
 use mir.Syntax.{w16, w32, w64}
 use mir.Val.{SFits}
-use Rattle.types.specs.Refusals.{END, DEPTH, OUT-OF-TURN, NO-ROOM, BAD-STATE, BAD-LIST, RANGE, BAD-DAY, MESSAGE-SIZE}
+use Rattle.types.specs.Refusals.{DEPTH, OUT-OF-TURN, NO-ROOM, BAD-STATE, BAD-LIST, RANGE, MESSAGE-SIZE}
 use Rattle.types.specs.declared.TType.{TType}
 use Rattle.types.specs.declared.TType.the-variants as T
 use Rattle.types.specs.declared.TMessageType.{TMessageType}
@@ -23,12 +24,11 @@ use Rattle.types.specs.Value.{Tree, Fields, typeOf, nesting, Bytes, Within}
 use Rattle.zigzag.specs.Zigzag.{zigzag, unzigzag}
 use Rattle.numbers.specs.Varint.{Found, got, refused, varint, fewest}
 use Rattle.puts.specs.Bytes.{intBytes}
-use Rattle.heads.specs.Reader.{readAt, readTo, missing}
+use Rattle.heads.specs.Reader.{readTo}
 use Rattle.heads.specs.Heads.{Message, message}
 use Rattle.heads.specs.Answers.{place, idOf, int8At, int16At, int32At, int64At, doubleAt, truthAt, uuidAt, binaryAt, textAt, itemsHeadAt, pairsHeadAt, fieldAt, messageAt}
 use Rattle.heads.specs.Numbers.{numberI8Read, numberI16Read, numberI32Read, numberI64Read, numberDoubleRead, numberBoolRead, numberPartRead, numberListHead, numberMapHead, numberFieldHead, numberMessageHead}
 use Rattle.skip.specs.Numbers.{numberSkipped}
-use Rattle.days.specs.Numbers.{numberChecked, numberPart}
 use Rattle.heads.specs.Spells.{Spells, Formed}
 use Rattle.input.specs.State as I
 use Rattle.input.specs.declared.Awaited.the-variants as W
@@ -40,8 +40,7 @@ use Rattle.skip.specs.Value.{valueOf}
 use Rattle.lent.specs.Count.{countFields}
 use Rattle.lent.specs.declared.Counted.{Counted}
 use Rattle.lent.specs.declared.Counted.the-variants as C
-use Rattle.skip.specs.Skip.{roomOf, skipOf, skipTo, skipCall, skippedTo}
-use Rattle.skip.specs.declared.Skipped.{Skipped}
+use Rattle.skip.specs.Skip.{roomOf, skipOf, skipCall, skippedTo}
 use Rattle.skip.specs.declared.Skipped.the-variants as S
 use Rattle.wanted.specs.Wanted.{listed}
 use Rattle.picker.specs.Pick.{pickCall, pickedRows}
@@ -56,18 +55,6 @@ use Rattle.lines.specs.Lines.{Item}
 use Rattle.printer.specs.Printing as printer
 use Rattle.printer.specs.Printing.{report}
 use Rattle.print_laws.specs.Tree.{itemsOf}
-use Rattle.skip.specs.Skip.{skips}
-use Rattle.input.specs.Outcome.{answers, declines}
-use Rattle.faults.specs.Fault as fault
-use Rattle.faults.specs.Tracked.{Step}
-use Rattle.faults.specs.Breaks.{Breaks}
-use Rattle.days.specs.Day.{Day, accepted, checkOf, messageOf, dayOf, joined}
-use Rattle.days.specs.Lists.{Fair}
-use Rattle.frame.specs.State as frame
-use Rattle.frame.specs.declared.FrameSkip.{FrameSkip}
-use Rattle.frame.specs.declared.Taken.{Taken}
-use Rattle.frame.specs.declared.FrameAnswer.{FrameAnswer}
-use Rattle.frame.specs.declared.FrameAnswer.the-variants as F
 use Rattle.promises.specs.Reads.{Read, pick, reads, late, far, readsAll}
 use Rattle.promises.specs.Writes as writing
 use Rattle.promises.specs.Writes.{Write, number, next, left, canGive, oneOf, writesAll}
@@ -299,85 +286,6 @@ PrintsRefusal =
 -- the first of the whole's
 abbrev pub PrintsCut : Type 0
 PrintsCut = (s : List ℕ) (k : ℕ) → length s ≤ 65536 → (n : ℕ) × (last : Item) × (report (take k s) ≡ take n (report s) ++ (last ∷ []))
-
--- FRAMES. "However a frame of the announced length is cut, the final answer and bytes used are those of skip over the whole frame", and an
--- answer that comes early is skip's on every completion; "A final answer stays, whatever comes"
-abbrev pub Fed : FrameSkip → List (List ℕ) → FrameSkip → Type 0
-Fed f [] g = f ≡ g
-Fed f (bs ∷ bss) g = (r : Taken) × frame.Took f bs r × Fed (r .state) bss g
-
-abbrev pub asSkip : Skipped → FrameAnswer
-asSkip (S.Done e) = F.Done (e .0)
-asSkip (S.Refused why) = F.Refused why
-
-abbrev pub FrameAsSkip : Type 0
-FrameAsSkip =
-    (lim : TConfiguration) (announced : ℕ) (f g : FrameSkip) (bss : List (List ℕ)) (cs ds : List ℕ) (r : Taken) →
-    inRange lim ≡ true → frame.Begins lim announced f → Fed f bss g → frame.Took g cs r →
-    (r .answer ≡ F.More → ⊥) → length ((joined bss ++ cs) ++ ds) ≡ announced →
-    r .answer ≡ asSkip (skipTo ((joined bss ++ cs) ++ ds) (lim .message) lim (lim .depth) T.Struct 0)
-
-abbrev pub FrameWhole : Type 0
-FrameWhole =
-    (lim : TConfiguration) (announced : ℕ) (f g : FrameSkip) (bss : List (List ℕ)) (cs : List ℕ) (r : Taken) →
-    inRange lim ≡ true → frame.Begins lim announced f → Fed f bss g → frame.Took g cs r → length (joined bss ++ cs) ≡ announced →
-    r .answer ≡ asSkip (skipTo (joined bss ++ cs) (lim .message) lim (lim .depth) T.Struct 0)
-
-abbrev pub FrameStays : Type 0
-FrameStays =
-    (f : FrameSkip) (cs : List ℕ) (r : Taken) → frame.soundOf f ≡ true → (frame.answerOf f ≡ F.More → ⊥) → frame.Took f cs r →
-    r ≡ record { answer = frame.answerOf f; state = f }
-
--- THE DAY FILE. "A file is accepted exactly if these rules hold"; "the same list of non-empty messages has just one file"
-abbrev pub DayAccepted : Type 0
-DayAccepted = (file : List ℕ) → (accepted file ≡ true) ↔ Day file
-
--- "otherwise refused 18, as is a message number of N or more"
-abbrev pub DayGives : Type 0
-DayGives =
-    (file : List ℕ) (k : ℕ) →
-    ((numberChecked (checkOf file) ≡ 0 → ⊥) → numberChecked (checkOf file) ≡ BAD-DAY)
-    × ((numberPart (messageOf file k) ≡ 0 → ⊥) → numberPart (messageOf file k) ≡ BAD-DAY)
-
--- the files that are accepted are those of the lists that are fair
-abbrev pub DayLists : Type 0
-DayLists = (file : List ℕ) → Bytes file → (accepted file ≡ true) ↔ ((ms : List (List ℕ)) × (Fair ms × (file ≡ dayOf ms)))
-
-abbrev pub DayOneList : Type 0
-DayOneList = (ms ns : List (List ℕ)) → Fair ms → Fair ns → dayOf ms ≡ dayOf ns → ms ≡ ns
-
--- WHERE A REFUSAL CAME FROM. "For a struct that skip refuses we want the number, the offset .. and the path"; "On a struct that skip accepts it
--- says so": the number is skip's, in every state, and so is what is accepted
-abbrev pub FaultAsSkip : Type 0
-FaultAsSkip =
-    (s : List ℕ) (st : I.State) →
-    ((e : ℕ) → fault.faults s st ≡ fault.accepted e → skips T.Struct s st ≡ answers tt (I.movedTo st (place e)))
-    × ((why off : ℕ) (path : List Step) → fault.faults s st ≡ fault.fault why off path → skips T.Struct s st ≡ declines why st)
-
--- "other bytes behind the offset, with the length kept, change neither number, offset nor path"
-abbrev pub FaultBehind : Type 0
-FaultBehind =
-    (s t : List ℕ) (st : I.State) (why off : ℕ) (path : List Step) → fault.faults s st ≡ fault.fault why off path →
-    take (suc off) t ≡ take (suc off) s → length t ≡ length s → fault.faults t st ≡ fault.fault why off path
-
--- "the offset and path are those at which 01's definition of a well-formed value first breaks": the offset lies in the input, before the
--- cut; cut anywhere before it, skip's answer is END; no well-formed value agrees with the input up to it; and the path leads to where it breaks
-abbrev pub FaultFirst : Type 0
-FaultFirst =
-    (s : List ℕ) (st : I.State) (why off : ℕ) (path : List Step) → fault.faults s st ≡ fault.fault why off path → I.gate (length s) st ≡ 0 →
-    ((st .place .0 ≤ off) × (off ≤ length s) × (off ≤ I.cutOf st))
-    × ((j : ℕ) → st .place .0 ≤ j → j < off → skipOf (take j s) (st .limits) (roomOf st) T.Struct (st .place .0) ≡ S.Refused END)
-    × ((t : List ℕ) → take (suc off) t ≡ take (suc off) s → length t ≡ length s →
-    (d : ℕ) → d ≤ I.cutOf st → Formed t (st .limits) (roomOf st) T.Struct (st .place .0) d → ⊥)
-
-abbrev pub FaultPath : Type 0
-FaultPath =
-    (s : List ℕ) (st : I.State) (why off : ℕ) (path : List Step) → fault.faults s st ≡ fault.fault why off path → I.gate (length s) st ≡ 0 →
-    (number read : ℕ) × Breaks path (st .limits) (roomOf st) T.Struct (drop (st .place .0) (take (I.cutOf st) s)) number read
-    × (missing (ltb (I.cutOf st) (length s)) number ≡ why) × (off ≡ st .place .0 + (read - 1))
-
-abbrev pub FaultFew : Type 0
-FaultFew = (s : List ℕ) (st : I.State) (why off : ℕ) (path : List Step) → fault.faults s st ≡ fault.fault why off path → length path ≤ 64
 
 -- THE EXPORTS. "calls the port through plain numbers and byte slices": an export answers the number of its call and leaves rows that hold
 -- the call's next state; so whatever is promised of a row of calls is promised of a row of exports
