@@ -4,9 +4,7 @@ use crate::{check_version, ffi, new_row, told, Refusal, TConfiguration, TMessage
 pub trait Buffer: private::Sealed {}
 
 mod private {
-    pub trait Sealed {
-        fn room(&mut self) -> &mut [u8];
-        fn bytes(&self) -> &[u8];
+    pub trait Sealed: AsRef<[u8]> + AsMut<[u8]> {
         /// Whether there is more room now, for a call that was refused for want of it.
         fn grow(&mut self) -> bool;
     }
@@ -16,14 +14,6 @@ impl Buffer for &mut [u8] {}
 
 impl private::Sealed for &mut [u8] {
     #[inline]
-    fn room(&mut self) -> &mut [u8] {
-        self
-    }
-
-    fn bytes(&self) -> &[u8] {
-        self
-    }
-
     fn grow(&mut self) -> bool {
         false
     }
@@ -34,15 +24,6 @@ impl Buffer for alloc::vec::Vec<u8> {}
 
 #[cfg(feature = "alloc")]
 impl private::Sealed for alloc::vec::Vec<u8> {
-    #[inline]
-    fn room(&mut self) -> &mut [u8] {
-        self
-    }
-
-    fn bytes(&self) -> &[u8] {
-        self
-    }
-
     fn grow(&mut self) -> bool {
         let twice = self.len().saturating_mul(2).max(64);
         self.resize(twice, 0);
@@ -79,7 +60,7 @@ pub struct CompactWriter<B: Buffer> {
 macro_rules! call {
     ($self:ident, $export:ident $(, $arg:expr)*) => {
         loop {
-            let room = $self.buffer.room();
+            let room: &mut [u8] = $self.buffer.as_mut();
             // SAFETY: the pointers and lengths are those of live borrows, and no two of them overlap.
             let answer = told(unsafe { ffi::$export(room.as_mut_ptr(), room.len(), $self.row.as_mut_ptr(), ROW $(, $arg)*) });
             if answer != Err(Refusal::NO_ROOM) || !$self.buffer.grow() {
@@ -145,7 +126,7 @@ impl<B: Buffer> CompactWriter<B> {
 
     /// What has been written.
     pub fn written(&self) -> &[u8] {
-        &self.buffer.bytes()[..self.place()]
+        &self.buffer.as_ref()[..self.place()]
     }
 
     /// A message's header, from whose first byte the message is counted.
