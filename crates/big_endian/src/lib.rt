@@ -1,5 +1,7 @@
 // Numbers of 16, 32 and 64 bits with the highest byte first, read from a slice and written into a lent buffer, and 64 bits as a signed number
 // and back (crate zigzag has the other widths).
+#![tactic(auto)]
+
 ghost use Rattle.std.specs.Prelude.{◌≡◌, ◌+◌, ◌≤◌, ◌<◌, length};
 ghost use Rattle.std.proofs.lemmas.List.Edits.{sets};
 ghost use Rattle.std.proofs.Math.Seq.{slice};
@@ -12,7 +14,7 @@ ghost use Rattle.big_endian.specs.Answers.{word16_at, word32_at, word64_at};
 use numbers::{Bits32, Bits64, Wrote};
 
 // The bits of two bytes and the place behind them, or END. (Crate numbers has the same of four and of eight.)
-#[derive(Drop)]
+#[derive(Clone, Copy)]
 pub enum Bits16 {
     Got(u16, usize),
     Refused(u8),

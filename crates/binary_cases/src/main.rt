@@ -2,6 +2,8 @@
 // limits, and of the state the place, the beginning and the depth), and then the bytes. The line is written again, and below it what the
 // call answers and the state that it hands back. What a model written from the public document answers, in the same form, is the file
 // stdout.
+#![tactic(auto)]
+
 ghost use Rattle.std.specs.Prelude.{◌≡◌, length, ◌≤◌, ◌<◌};
 
 use binary_input::TBinaryInputProtocol;

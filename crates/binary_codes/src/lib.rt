@@ -1,4 +1,6 @@
 // The codes of the types in the binary protocol, both ways, and the fewest bytes that values of a type take.
+#![tactic(auto)]
+
 ghost use Rattle.std.specs.Prelude.{◌≡◌, ◌*◌, ◌<◌};
 ghost use Rattle.binary_codes.specs.Codes.{binary_code, by_binary_code, least_size};
 

@@ -1,5 +1,7 @@
 // The binary protocol's headers and scalars, read at a place of the lent bytes, with no state: the bodies of the Rust's `read_*`. Each
 // answers what it found and the place behind it, or the number of a refusal. An i8 and a uuid are read as in the compact protocol (`heads`).
+#![tactic(auto)]
+
 ghost use Rattle.std.specs.Prelude.{◌≡◌, ◌≤◌, pos, length};
 ghost use Rattle.heads.specs.Answers.{some_at};
 ghost use Rattle.protocols.specs.Answers.{truth_at, int16_at, int32_at, int64_at, double_at, binary_at, items_at, pairs_at, items_head_at, pairs_head_at, field_at};
@@ -16,14 +18,14 @@ use types::{
 };
 
 // A message's header: its type and sequence number, where its name starts and ends, and the place behind the header.
-#[derive(Drop)]
+#[derive(Clone, Copy)]
 pub enum MessageHead {
     Got(TMessageType, SeqNo, Place, Place, Place),
     Refused(u8),
 }
 
 // A type, and the place behind its code.
-#[derive(Drop)]
+#[derive(Clone, Copy)]
 pub enum KindRead {
     Got(TType, Place),
     Refused(u8),

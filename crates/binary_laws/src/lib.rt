@@ -1,1 +1,2 @@
 // No code: the laws over several crates of the binary protocol.
+#![tactic(auto)]

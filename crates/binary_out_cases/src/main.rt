@@ -5,6 +5,8 @@
 // began, the depth, the buffer's length), and then calls. A call is its number, two bytes a and b, a number of 8 bytes, lowest first, a length of 4, and so many bytes.
 // Each answers the place behind it, or `refused N`, and the next goes on from the state that it hands back. The whole buffer, in which each byte was aa, stands
 // last, so that a refused call is seen to have kept it.
+#![tactic(auto)]
+
 ghost use Rattle.std.specs.Prelude.{◌≡◌, length, ◌≤◌, ◌<◌};
 ghost use Rattle.io.specs.Counts.{IsPrefixLen};
 

@@ -1,5 +1,7 @@
 // The binary writer: TBinaryOutputProtocol, its strict form, as a state by value, over a lent buffer. Every call answers Written or the number of a refusal,
 // and hands back the next state; a refused call hands back the state as it was and leaves the buffer's bytes.
+#![tactic(auto)]
+
 ghost use Rattle.std.specs.Prelude.{◌≡◌, ◌+◌, length};
 ghost use Rattle.puts.specs.Wrong.{or_else};
 ghost use Rattle.binary_output.specs.State.{begun, begun_at, unsound, left_of, begun_here};
@@ -11,7 +13,7 @@ use puts::wrong;
 use types::{FieldId, Place, SeqNo, TConfiguration, TMessageType, TType};
 
 // How many structs are open; the limits; and where the message began, from which its ceiling counts.
-#[derive(Drop)]
+#[derive(Clone, Copy)]
 pub struct TBinaryOutputProtocol {
     pub place: Place,
     pub depth: usize,
@@ -19,7 +21,7 @@ pub struct TBinaryOutputProtocol {
     pub begin: Place,
 }
 
-#[derive(Drop)]
+#[derive(Clone, Copy)]
 pub struct BinaryWritten {
     pub answer: WriteAnswer,
     pub state: TBinaryOutputProtocol,

@@ -1,5 +1,7 @@
 // The bytes of the binary protocol's headers, put into the lent buffer at a place: each tests the room for all of its bytes before it puts the first, so that
 // a refusal has written nothing. No state stands here, and nothing is asked of the arguments. (A scalar is a call of big_endian.)
+#![tactic(auto)]
+
 ghost use Rattle.std.specs.Prelude.{◌≡◌, ◌∷◌, ◌++◌, ◌+◌, ltb};
 ghost use Rattle.numbers.specs.Answers.{wrote_at, put_at};
 ghost use Rattle.big_endian.specs.Big.{big4};

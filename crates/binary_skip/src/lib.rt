@@ -1,5 +1,7 @@
 // Skip in the binary protocol: over one value of a type, whatever stands in it, by the rules of the compact protocol's (`skip`). A value's
 // skip calls those of list, map and struct, and each of these calls the value's for its elements or fields, with one level of room less.
+#![tactic(auto)]
+
 ghost use Rattle.std.specs.Prelude.{◌≡◌, suc};
 ghost use Rattle.types.specs.declared.TType.TheVariants as T;
 ghost use Rattle.heads.specs.Reader.{some};

@@ -2,6 +2,8 @@
 // good, and where and why it is not, `day get FILE K` writes message K as it is, `day pack FILE..` puts messages that stand in files of
 // their own into one day file. The work is the libraries'; here are the arguments, the files and the buffers. What is refused is said
 // on standard error, and nothing is written then.
+#![tactic(auto)]
+
 ghost use Rattle.std.specs.Prelude.{◌≡◌, length, ◌≤◌, ◌<◌};
 ghost use Rattle.io.specs.Counts.{IsPrefixLen};
 

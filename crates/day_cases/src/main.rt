@@ -4,6 +4,8 @@
 //
 // A frame of the kind `file` is a day file, good or bad. One of the kind `write` is a call of the writer: the room lent and the number of
 // ends, each 4 bytes, the ends, 8 bytes each, and the messages' bytes.
+#![tactic(auto)]
+
 ghost use Rattle.std.specs.Prelude.{◌≡◌, length, ◌≤◌, ◌<◌};
 ghost use Rattle.io.specs.Counts.{IsPrefixLen};
 

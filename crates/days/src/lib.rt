@@ -1,4 +1,6 @@
 // A day's messages in one file: a count N, N+1 offsets, the messages. Writer, check, and one message by its number.
+#![tactic(auto)]
+
 ghost use Rattle.std.specs.Prelude.{◌≡◌, Bool, true, false, ◌+◌, ◌*◌, ◌≤◌, ◌<◌, length};
 ghost use Rattle.std.proofs.lemmas.List.Edits.{sets};
 ghost use Rattle.std.proofs.Math.Seq.{slice};
@@ -9,14 +11,14 @@ ghost use Rattle.days.specs.Write.{up_to, fitting, header_of, day_wrote, day_put
 use numbers::{Bits32, Wrote};
 
 // How many messages there are, or BAD DAY.
-#[derive(Drop)]
+#[derive(Clone, Copy)]
 pub enum Checked {
     Count(usize),
     Refused(u8),
 }
 
 // Where a message starts and ends in the file, or BAD DAY.
-#[derive(Drop)]
+#[derive(Clone, Copy)]
 pub enum Part {
     At(usize, usize),
     Refused(u8),

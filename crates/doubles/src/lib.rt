@@ -1,4 +1,6 @@
 // How many of a struct's doubles an f32 holds, and the answer for each. One walk does both, and its refusal is skip's.
+#![tactic(auto)]
+
 ghost use Rattle.std.specs.Prelude.{◌≡◌, ◌≤◌, length};
 ghost use Rattle.types.specs.Value.{Tree};
 ghost use Rattle.input.specs.Outcome.{says, declines};
@@ -13,32 +15,32 @@ use types::{Place, TType};
 mod walk;
 
 // The place behind a value, with the counts so far; or the number of a refusal.
-#[derive(Drop)]
+#[derive(Clone, Copy)]
 pub enum Walked {
     Done(Place, Counts),
     Refused(u8),
 }
 
-#[derive(Drop)]
+#[derive(Clone, Copy)]
 pub enum CountsAnswer {
     Got(Counts),
     Refused(u8),
 }
 
-#[derive(Drop)]
+#[derive(Clone, Copy)]
 pub struct ReadCounts {
     pub answer: CountsAnswer,
     pub state: TCompactInputProtocol,
 }
 
 // How many answers there are.
-#[derive(Drop)]
+#[derive(Clone, Copy)]
 pub enum RowAnswer {
     Got(usize),
     Refused(u8),
 }
 
-#[derive(Drop)]
+#[derive(Clone, Copy)]
 pub struct ReadRow {
     pub answer: RowAnswer,
     pub state: TCompactInputProtocol,

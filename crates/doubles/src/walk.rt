@@ -17,7 +17,7 @@ use skip::Skipped;
 use types::{FieldId, Place, TConfiguration, TType};
 
 // Where a run of fields has led: the place behind it, the last field's id, and the counts.
-#[derive(Drop)]
+#[derive(Clone, Copy)]
 struct Run {
     place: Place,
     last: FieldId,

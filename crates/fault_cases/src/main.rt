@@ -6,6 +6,8 @@
 // numbers, 4 bytes each, and the input: the limits on depth, strings and containers, the ceiling, the place, where the message began,
 // the depth, and 1 where a bool waits. Of it the first line is written. One of the kind `day` is a day file, of whose messages 0 to 7
 // the first lines are written.
+#![tactic(auto)]
+
 ghost use Rattle.std.specs.Prelude.{◌≡◌, length, ◌≤◌, ◌<◌};
 ghost use Rattle.io.specs.Counts.{IsPrefixLen};
 

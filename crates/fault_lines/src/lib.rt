@@ -1,5 +1,7 @@
 // What is said of a fault, into a lent buffer at a place: as much as fits, as in `text`. The first line is for machines; the lines
 // below it, where they are wanted, are for people.
+#![tactic(auto)]
+
 ghost use Rattle.std.specs.Prelude.{◌≡◌, [], ◌-◌, ◌*◌, ◌≤◌, length};
 ghost use Rattle.input.specs.State.{fresh};
 ghost use Rattle.text.specs.Pen.{inked};

@@ -1,6 +1,8 @@
 // Where and why a struct is refused: the number, the offset of the last byte read, and the path to it. Skip is asked first; what it refuses is
 // looked into one level at a time, where skip says which of the values inside is the first that it refuses. How far refused bytes were read, and
 // one level inward, stand in modules of their own.
+#![tactic(auto)]
+
 ghost use Rattle.std.specs.Prelude.{◌≡◌, ◌++◌, ◌-◌, ◌+◌, ◌*◌, ◌≤◌, length, take, drop};
 ghost use Rattle.input.specs.State.{cut_of};
 ghost use Rattle.faults.specs.Value.{tracked};
@@ -16,14 +18,14 @@ mod level;
 mod reach;
 
 // The place behind what is accepted; or a refusal's number, the offset, and how many steps the path has.
-#[derive(Drop)]
+#[derive(Clone, Copy)]
 pub enum Verdict {
     Accepted(Place),
     Refused(u8, usize, usize),
 }
 
 // One step of a path.
-#[derive(Drop)]
+#[derive(Clone, Copy)]
 pub enum Step {
     Field(FieldId),
     Element(u32),
@@ -32,7 +34,7 @@ pub enum Step {
 }
 
 // One level inward: nothing is refused; the value's own bytes are, with the place behind the last that was read; or a value inside is.
-#[derive(Drop)]
+#[derive(Clone, Copy)]
 pub enum Inward {
     Whole,
     Own(u8, usize),
@@ -40,7 +42,7 @@ pub enum Inward {
 }
 
 // The whole way: a refusal's number, or 0 where nothing is refused; the place behind the last byte read; how many steps, and two numbers for each.
-#[derive(Drop)]
+#[derive(Clone, Copy)]
 pub struct Traced {
     pub number: u8,
     pub reach: usize,

@@ -1,4 +1,6 @@
 // Frames whose bytes come in bursts: a skip of one struct that keeps its place between them.
+#![tactic(auto)]
+
 ghost use Rattle.std.specs.Prelude.{◌≡◌, ◌+◌, ◌<◌, ◌≤◌, length};
 ghost use Rattle.frame.specs.Machine.{settled, entered, ran};
 ghost use Rattle.frame.specs.State.{asked, held, rest_of, Stands, stops_at, waits_at, Allowed, goal_need, need, progress_of, ran_to, Standing, ready_by, waits_well, counts_well, is_refusal, sound_of, answer_of, shut_of, close_of, Begins, Went, Took};
@@ -11,7 +13,7 @@ mod whole;
 
 // An open container and what of it is still to come: a struct's fields behind an id; so many elements; so many pairs; a value, then so
 // many pairs.
-#[derive(Drop)]
+#[derive(Clone, Copy)]
 pub enum Nest {
     Fields(FieldId),
     Items(TType, u32),
@@ -19,11 +21,11 @@ pub enum Nest {
     Values(TType, TType, u32),
 }
 
-#[derive(Drop)]
+#[derive(Clone, Copy)]
 pub struct Level(pub Nest);
 
 // A number of which some groups of 7 bits have come.
-#[derive(Drop)]
+#[derive(Clone, Copy)]
 pub struct Part {
     pub groups: u8,
     pub low: u32,
@@ -31,7 +33,7 @@ pub struct Part {
 
 // What a number is for that comes in groups of 7 bits: a bool field's id, another field's, a list's or set's count, a map's, a string's
 // length, an i16.
-#[derive(Drop)]
+#[derive(Clone, Copy)]
 pub enum Goal {
     Flag,
     Id(TType),
@@ -43,7 +45,7 @@ pub enum Goal {
 
 // What the next byte that is looked at says: a field's header, a bool, a list's or set's header, the types of a map with so many pairs,
 // the next group of a number, or one of at most so many bytes of a number that nobody needs.
-#[derive(Drop)]
+#[derive(Clone, Copy)]
 pub enum Wait {
     Head,
     Truth,
@@ -55,7 +57,7 @@ pub enum Wait {
 
 // What a byte that is looked at leads to: a refusal; another byte to look at; so many bytes to pass over, and on with what is open; the
 // innermost struct ends; a container is opened; the innermost struct goes on behind an id, or a value of a type in it begins.
-#[derive(Drop)]
+#[derive(Clone, Copy)]
 pub enum Moved {
     Refused(u8),
     Waits(Wait),
@@ -67,7 +69,7 @@ pub enum Moved {
 }
 
 // How a value begins: with a byte to look at; a struct, whose first header is looked at; bytes that nobody looks at; a refusal.
-#[derive(Drop)]
+#[derive(Clone, Copy)]
 enum Begun {
     Asks(Wait),
     Enters,
@@ -77,7 +79,7 @@ enum Begun {
 
 // One turn over the innermost that is open, with the bytes to pass over: it is done; it is now this, and a byte is looked at; it is now
 // this, and a struct in it begins; a refusal.
-#[derive(Drop)]
+#[derive(Clone, Copy)]
 enum Turn {
     Up(usize),
     Asks(Nest, usize, Wait),
@@ -86,7 +88,7 @@ enum Turn {
 }
 
 // A number one byte on.
-#[derive(Drop)]
+#[derive(Clone, Copy)]
 enum Grown {
     Whole(u32),
     More(Part),
@@ -94,7 +96,7 @@ enum Grown {
 }
 
 // An id of 16 bits, or none.
-#[derive(Drop)]
+#[derive(Clone, Copy)]
 enum ShortId {
     Got(FieldId),
     Over,
@@ -503,18 +505,18 @@ fn turn_over(limits: TConfiguration, left: usize, held: usize, nest: Nest, body:
 }
 
 // Where the machine rests: it waits for a byte; the struct has ended; a refusal.
-#[derive(Drop)]
+#[derive(Clone, Copy)]
 pub enum Now {
     Asks(Wait),
     Done(usize),
     Refused(u8),
 }
 
-#[derive(Drop)]
+#[derive(Clone, Copy)]
 pub struct Resting(pub Now);
 
 // What is open, the bytes to pass over, and what then.
-#[derive(Drop)]
+#[derive(Clone, Copy)]
 pub struct Stand {
     pub levels: [Level; 64],
     pub depth: usize,
@@ -532,7 +534,7 @@ fn ask(left: usize, body: usize, wait: Wait) -> Resting
 }
 
 // What a move makes of the innermost alone: it is now this, with bytes to pass over and what then; or others are touched too.
-#[derive(Drop)]
+#[derive(Clone, Copy)]
 enum Near {
     Rests(Nest, usize, Resting),
     Far,
@@ -725,7 +727,7 @@ fn apply(
 }
 
 // What is told of a frame: more bytes are waited for; it has ended, so many bytes used; a refusal.
-#[derive(Drop)]
+#[derive(Clone, Copy)]
 pub enum FrameAnswer {
     More,
     Done(usize),
@@ -733,7 +735,7 @@ pub enum FrameAnswer {
 }
 
 // How far a run has come: how many bytes of the frame are left up to its cut, how many were taken, and where its skip stands.
-#[derive(Drop)]
+#[derive(Clone, Copy)]
 struct Progress {
     pub left: usize,
     pub taken: usize,
@@ -792,7 +794,7 @@ fn run(limits: TConfiguration, from: Stand, left: usize, taken: usize, burst: &[
 }
 
 // What a call leads to.
-#[derive(Drop)]
+#[derive(Clone, Copy)]
 pub struct Taken {
     pub answer: FrameAnswer,
     pub state: FrameSkip,
@@ -800,7 +802,7 @@ pub struct Taken {
 
 // A skip of one struct whose bytes come in bursts: its limits, how many bytes are left up to the cut, how many were taken, how many
 // announced bytes lie behind the cut, and where it stands.
-#[derive(Drop)]
+#[derive(Clone, Copy)]
 pub struct FrameSkip {
     pub limits: TConfiguration,
     pub left: usize,

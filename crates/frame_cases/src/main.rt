@@ -1,6 +1,8 @@
 // Skips many frames in one run, each in bursts of several lengths. Standard input is a row of frames: a line that begins with the number of the frame's
 // bytes, and then those bytes. The line is written again, and below it the answer for one burst, for bursts of 5 bytes and for bursts of one, each with an
 // empty burst before it. What the crate's own skip answered, in the same form, is the file stdout.
+#![tactic(auto)]
+
 ghost use Rattle.std.specs.Prelude.{◌≡◌, length, ◌≤◌, ◌<◌};
 
 use frame::{FrameAnswer, FrameSkip};

@@ -1,10 +1,12 @@
 // Skips one frame from standard input: its announced length, a line in decimal, and then its bytes as they come, a burst being what one read gives. It
 // answers `done USED` or `refused N` as soon as that is known. The skip is the library's; here are the reads, the limits and the line.
+#![tactic(auto)]
+
 use frame::{FrameAnswer, FrameSkip, Taken};
 use libc::{STDERR_FILENO, STDIN_FILENO, STDOUT_FILENO};
 use types::TConfiguration;
 
-#[derive(Drop)]
+#[derive(Clone, Copy)]
 enum Length {
     Got(usize),
     Missing,

@@ -1,5 +1,7 @@
 // Headers and scalars, read at a place of the lent bytes, with no state: the bodies of the Rust's `read_*`. Each answers what it found and
 // the place behind it, or the number of a refusal.
+#![tactic(auto)]
+
 ghost use Rattle.std.specs.Prelude.{◌≡◌, ◌*◌, ◌≤◌, ◌<◌, length};
 ghost use Rattle.heads.specs.Heads.{least_size};
 ghost use Rattle.heads.specs.Answers.{int8_at, int16_at, int32_at, int64_at, double_at, truth_at, some_at, uuid_at, binary_at, text_at, count_why, listed_at, items_at, mapped_at, pairs_at, items_head_at, pairs_head_at, head_at, long_at, field_at, kind_at, message_at, named_at};
@@ -9,66 +11,66 @@ use types::{
     FieldId, MessageTypeRead, Place, SeqNo, TConfiguration, TMessageType, TType, TypeRead,
 };
 
-#[derive(Drop)]
+#[derive(Clone, Copy)]
 pub enum I8Read {
     Got(i8, Place),
     Refused(u8),
 }
 
-#[derive(Drop)]
+#[derive(Clone, Copy)]
 pub enum I16Read {
     Got(i16, Place),
     Refused(u8),
 }
 
-#[derive(Drop)]
+#[derive(Clone, Copy)]
 pub enum I32Read {
     Got(i32, Place),
     Refused(u8),
 }
 
-#[derive(Drop)]
+#[derive(Clone, Copy)]
 pub enum I64Read {
     Got(i64, Place),
     Refused(u8),
 }
 
 // A double's 64 bits.
-#[derive(Drop)]
+#[derive(Clone, Copy)]
 pub enum DoubleRead {
     Got(u64, Place),
     Refused(u8),
 }
 
-#[derive(Drop)]
+#[derive(Clone, Copy)]
 pub enum BoolRead {
     Got(bool, Place),
     Refused(u8),
 }
 
 // A part of the lent bytes: where it starts and where it ends, which is the place behind it.
-#[derive(Drop)]
+#[derive(Clone, Copy)]
 pub enum PartRead {
     Got(Place, Place),
     Refused(u8),
 }
 
 // A list's or a set's header: the type of the elements and how many there are.
-#[derive(Drop)]
+#[derive(Clone, Copy)]
 pub enum ListHead {
     Got(TType, u32, Place),
     Refused(u8),
 }
 
 // A map's: an empty one has no types, which is Stop twice.
-#[derive(Drop)]
+#[derive(Clone, Copy)]
 pub enum MapHead {
     Got(TType, TType, u32, Place),
     Refused(u8),
 }
 
 // A field's header: the struct's end; a bool field with its value; a field of another type.
-#[derive(Drop)]
+#[derive(Clone, Copy)]
 pub enum FieldHead {
     Stop(Place),
     Bool(bool, FieldId, Place),
@@ -77,7 +79,7 @@ pub enum FieldHead {
 }
 
 // A message's header, with the part that is its name.
-#[derive(Drop)]
+#[derive(Clone, Copy)]
 pub enum MessageHead {
     Got(TMessageType, SeqNo, Place, Place),
     Refused(u8),

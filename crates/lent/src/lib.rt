@@ -1,5 +1,7 @@
 // A reader that keeps the lent bytes beside its state: thin calls over those of `input` and `skip`. Each hands back what that call answers, and the
 // reader with the next state. The borrow checker covers no function that holds such a reader, so each is proved by hand.
+#![tactic(auto)]
+
 ghost use Rattle.std.specs.Prelude.{◌≡◌};
 ghost use Rattle.lent.specs.Lent.{lent, lent_message, lent_field, lent_skip};
 ghost use Rattle.lent.specs.Count.{count_fields};
@@ -8,25 +10,25 @@ use input::{DoneAnswer, FieldAnswer, MessageAnswer, TCompactInputProtocol};
 use types::{Place, TType};
 
 // The fields stand in the order in which the calls of `input` and `skip` take them.
-#[derive(Drop)]
+#[derive(Clone, Copy)]
 pub struct LentReader<'a> {
     pub state: TCompactInputProtocol,
     pub bytes: &'a [u8],
 }
 
-#[derive(Drop)]
+#[derive(Clone, Copy)]
 pub struct LentMessage<'a> {
     pub answer: MessageAnswer,
     pub reader: LentReader<'a>,
 }
 
-#[derive(Drop)]
+#[derive(Clone, Copy)]
 pub struct LentField<'a> {
     pub answer: FieldAnswer,
     pub reader: LentReader<'a>,
 }
 
-#[derive(Drop)]
+#[derive(Clone, Copy)]
 pub struct LentDone<'a> {
     pub answer: DoneAnswer,
     pub reader: LentReader<'a>,
@@ -89,7 +91,7 @@ impl<'a> LentReader<'a> {
 }
 
 // How many fields the struct of a message has, and where it ends; or the number of a refusal.
-#[derive(Drop)]
+#[derive(Clone, Copy)]
 pub enum Counted {
     Done(usize, Place),
     Refused(u8),

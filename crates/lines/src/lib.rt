@@ -1,4 +1,6 @@
 // The lines of the printing program, one call for each kind of line, into a lent buffer at a place: as much as fits, as in `text`.
+#![tactic(auto)]
+
 ghost use Rattle.std.specs.Prelude.{◌≡◌};
 ghost use Rattle.text.specs.Pen.{inked};
 ghost use Rattle.lines.specs.Lines.{line, spaced_type, spaced_int, last_number, scalar_text, message, struct, field, stop, items, map, scalar, part, end, refusal};

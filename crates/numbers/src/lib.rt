@@ -1,4 +1,6 @@
 // The numbers of the compact protocol in bytes: varints of 32 and 64 bits, i16, and four or eight little-endian bytes.
+#![tactic(auto)]
+
 ghost use Rattle.std.specs.Prelude.{◌≡◌, ◌+◌, ◌<◌, ◌≤◌, [], ◌∷◌, length, nat_lt};
 ghost use Rattle.std.proofs.lemmas.List.Edits.{sets};
 ghost use Rattle.std.proofs.Math.Seq.{slice};
@@ -7,40 +9,40 @@ ghost use Rattle.numbers.specs.Fixed.{little, four, eight};
 ghost use Rattle.numbers.specs.Answers.{varint32_at, varint64_at, signed16_at, bits32_at, bits64_at, wrote_at, put_at};
 
 // A number and the place behind it, or the number of a refusal: END, LONG VARINT, and of an i16 RANGE.
-#[derive(Drop)]
+#[derive(Clone, Copy)]
 pub enum Varint32 {
     Got(u32, usize),
     Refused(u8),
 }
 
-#[derive(Drop)]
+#[derive(Clone, Copy)]
 pub enum Varint64 {
     Got(u64, usize),
     Refused(u8),
 }
 
-#[derive(Drop)]
+#[derive(Clone, Copy)]
 pub enum Int16 {
     Got(i16, usize),
     Refused(u8),
 }
 
 // The bits of four bytes and the place behind them, or END.
-#[derive(Drop)]
+#[derive(Clone, Copy)]
 pub enum Bits32 {
     Got(u32, usize),
     Refused(u8),
 }
 
 // The same of eight.
-#[derive(Drop)]
+#[derive(Clone, Copy)]
 pub enum Bits64 {
     Got(u64, usize),
     Refused(u8),
 }
 
 // The place behind what was written, or NO ROOM.
-#[derive(Drop)]
+#[derive(Clone, Copy)]
 pub enum Wrote {
     To(usize),
     Refused(u8),

@@ -1,5 +1,7 @@
 // The writer: TCompactOutputProtocol as a state by value, over a lent buffer. Every call answers Written or the number of a refusal, and hands
 // back the next state; a refused call hands back the state as it was and leaves the buffer's bytes.
+#![tactic(auto)]
+
 ghost use Rattle.std.specs.Prelude.{◌≡◌, ◌+◌, length};
 ghost use Rattle.output.specs.State.{begun, begun_at, unsound, in_turn, left_of, begun_here, headed};
 ghost use Rattle.puts.specs.Bytes.{above, items_bytes, pairs_bytes};
@@ -11,18 +13,18 @@ use puts::wrong;
 use types::{FieldId, Place, SeqNo, TConfiguration, TMessageType, TType};
 
 // The bool field whose header waits for its value, if there is one.
-#[derive(Drop)]
+#[derive(Clone, Copy)]
 pub enum AwaitedField {
     Nothing,
     Field(FieldId),
 }
 
-#[derive(Drop)]
+#[derive(Clone, Copy)]
 pub struct PendingField(pub AwaitedField);
 
 // The last field's id; how many structs are open, and for each the id to go back to; a bool field that waits; the limits; and where the
 // message began, from which its ceiling counts.
-#[derive(Drop)]
+#[derive(Clone, Copy)]
 pub struct TCompactOutputProtocol {
     pub place: Place,
     pub last: FieldId,
@@ -36,13 +38,13 @@ pub struct TCompactOutputProtocol {
 // A uuid is its 16 bytes: no other number of them can be given.
 pub type Uuid = [u8; 16];
 
-#[derive(Drop)]
+#[derive(Clone, Copy)]
 pub enum WriteAnswer {
     Written,
     Refused(u8),
 }
 
-#[derive(Drop)]
+#[derive(Clone, Copy)]
 pub struct Written {
     pub answer: WriteAnswer,
     pub state: TCompactOutputProtocol,

@@ -1,6 +1,8 @@
 // The picker: one walk that says for each wanted field id where the last field of that id and type has its value, whatever else stands in the struct.
 // The struct is walked twice: first skip accepts or refuses it, so that nothing is written before a refusal; then its own fields are noted in
 // the rows. Fields of inner structs are passed over with the value that holds them.
+#![tactic(auto)]
+
 ghost use Rattle.std.specs.Prelude.{◌≡◌, true, cond, List, ℕ, ◌+◌, ◌*◌, ◌≤◌, ◌<◌, eqb, length, pos};
 ghost use Rattle.types.specs.Value.{Tree, truth};
 ghost use Rattle.numbers.specs.Varint.{got};

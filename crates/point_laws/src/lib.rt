@@ -1,1 +1,2 @@
 // Why unknown fields change no replay; no code.
+#![tactic(auto)]

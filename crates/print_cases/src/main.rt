@@ -1,6 +1,8 @@
 // Prints many messages in one run. Standard input is a row of frames: a line that begins with the number of the message's bytes and goes on with what
 // they are, and then those bytes. The line is written again, and below it the text that the printing program has for them. What the crate's own reader
 // printed, in the same form, is the file stdout.
+#![tactic(auto)]
+
 ghost use Rattle.std.specs.Prelude.{◌≡◌, length, ◌≤◌, ◌<◌};
 ghost use Rattle.io.specs.Counts.{IsPrefixLen};
 

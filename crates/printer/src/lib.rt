@@ -1,4 +1,6 @@
 // The lines of one message and one struct, into a lent buffer: the cycle of skip, with a line for each header and each value.
+#![tactic(auto)]
+
 ghost use Rattle.std.specs.Prelude.{◌≡◌, pos};
 ghost use Rattle.types.specs.Value as val;
 ghost use Rattle.scalars.specs.Scalars.{scalar_of};
@@ -19,14 +21,14 @@ use scalars::Scalar;
 use types::{FieldId, Place, TConfiguration, TType};
 
 // The place behind what was read, or the number of a refusal; and the place behind the text so far.
-#[derive(Drop)]
+#[derive(Clone, Copy)]
 enum Printed {
     Went(Place, usize),
     Stopped(u8, usize),
 }
 
 // How many bytes of text were written, or NO ROOM.
-#[derive(Drop)]
+#[derive(Clone, Copy)]
 pub enum Text {
     Wrote(usize),
     Refused(u8),

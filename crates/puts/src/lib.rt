@@ -1,5 +1,7 @@
 // The bytes of headers and scalars, put into the lent buffer at a place: each works out how many bytes there will be and tests the room
 // before it puts the first, so that a refusal has written nothing. No state stands here, and nothing is asked of the arguments.
+#![tactic(auto)]
+
 ghost use Rattle.std.specs.Prelude.{◌≡◌, [], ◌∷◌, ◌++◌, ◌+◌, ◌%◌, ltb, length};
 ghost use Rattle.std.specs.Int.{w32};
 ghost use Rattle.std.proofs.Common.{of_z};

@@ -1,11 +1,13 @@
 // A decoded scalar: a truth, a signed number or a double. In the prover's logic there is one NaN, with no payload, so a NaN's 64 bits are carried
 // beside the doubles.
+#![tactic(auto)]
+
 ghost use Rattle.std.specs.Prelude.{◌≡◌, cond};
 ghost use Rattle.std.specs.Float.{binary64};
 ghost use Rattle.std.specs.Float.Ieee.{to_bits};
 ghost use Rattle.scalars.specs.Scalars.{scalar_of, bits_of};
 
-#[derive(Drop)]
+#[derive(Clone, Copy)]
 pub enum Scalar {
     Bool(bool),
     Int(i64),

@@ -1,4 +1,6 @@
 // What is said of a message's doubles, into a lent buffer at a place: as much as fits, as in `text`.
+#![tactic(auto)]
+
 ghost use Rattle.std.specs.Prelude.{◌≡◌};
 ghost use Rattle.input.specs.State.{fresh};
 ghost use Rattle.text.specs.Pen.{inked};

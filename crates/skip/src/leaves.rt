@@ -13,7 +13,7 @@ use heads::{BoolRead, I16Read, PartRead};
 use types::{FieldId, FieldType, Place, TConfiguration, TType};
 
 // Where a run of fields has led: the place behind it, and the last field's id.
-#[derive(Drop)]
+#[derive(Clone, Copy)]
 pub struct Run {
     pub place: Place,
     pub last: FieldId,

@@ -1,5 +1,7 @@
 // Skip: over one value of a type, whatever stands in it. A value's skip calls those of list, map and struct, and each of these calls the value's
 // for its elements or fields, with one level of room less; counts and fields are loops, so the stack grows with nesting alone.
+#![tactic(auto)]
+
 ghost use Rattle.std.specs.Prelude.{◌≡◌, ◌↔◌, true, false, cond, ℕ, suc, ◌≤◌, length, eqb};
 ghost use Rattle.types.specs.Refusals.{OUT_OF_TURN};
 ghost use Rattle.types.specs.Codes.{type_code};
@@ -19,7 +21,7 @@ use types::{FieldId, Place, TConfiguration, TType};
 pub mod leaves;
 
 // The place behind the value, or the number of a refusal.
-#[derive(Drop)]
+#[derive(Clone, Copy)]
 pub enum Skipped {
     Done(Place),
     Refused(u8),

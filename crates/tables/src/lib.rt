@@ -1,6 +1,8 @@
 // What a header's first byte says, as a number for each of the 256 bytes: a field's, and a list's or a set's. Each row is proved to say what
 // the rules on the byte's high and low 4 bits say. A row is an arm and not an element of a constant array, which would be copied to the
 // stack at every look; of constant arms the compiler makes a table in read-only memory.
+#![tactic(auto)]
+
 ghost use Rattle.std.specs.Prelude.{◌≡◌};
 ghost use Rattle.tables.specs.Rows.{field_row, list_row};
 

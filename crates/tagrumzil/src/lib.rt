@@ -1,4 +1,6 @@
 // The port for C and Rust: plain numbers and slices, and a state in a lent row.
+#![tactic(auto)]
+
 mod bare;
 mod day;
 mod fault;

@@ -1,5 +1,7 @@
 // Text into a lent buffer at a place: bytes, words, decimal and hex, names of types. Each call writes as much as fits and answers the place behind it,
 // as the Rust's `Write` for `&mut [u8]` does, so that none of them asks for room; that there is room is a law of the caller's text.
+#![tactic(auto)]
+
 ghost use Rattle.std.specs.Prelude.{◌≡◌, ◌<◌};
 ghost use Rattle.text.specs.Pen.{dot, inked};
 ghost use Rattle.text.specs.Words.{decimal, signed, hex_digit, hex, hexes, type_name, truth_name};

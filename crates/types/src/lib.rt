@@ -1,4 +1,6 @@
 // What every crate above shares: the refusal numbers, the types with their codes, the kinds of numbers that must not be mixed, and the limits.
+#![tactic(auto)]
+
 ghost use Rattle.std.specs.Prelude.{◌≡◌};
 ghost use Rattle.types.specs.Codes.{type_by_number, element_type, field_type, type_code, truth_code, message_by_number, message_code};
 ghost use Rattle.types.specs.Limits.{in_range, defaults};
@@ -41,17 +43,17 @@ pub const BAD_DAY: u8 = 18;
 pub const MESSAGE_SIZE: u8 = 19;
 
 // A field's id, a message's sequence number and a place in the lent bytes: three kinds of number, each a type of its own.
-#[derive(Drop)]
+#[derive(Clone, Copy)]
 pub struct FieldId(pub i16);
 
-#[derive(Drop)]
+#[derive(Clone, Copy)]
 pub struct SeqNo(pub i32);
 
-#[derive(Drop)]
+#[derive(Clone, Copy)]
 pub struct Place(pub usize);
 
 // The types of the protocol, with the names of the Rust. (Its Void and Utf7 have no code here.)
-#[derive(Drop)]
+#[derive(Clone, Copy)]
 pub enum TType {
     Stop,
     Bool,
@@ -68,7 +70,7 @@ pub enum TType {
     Uuid,
 }
 
-#[derive(Drop)]
+#[derive(Clone, Copy)]
 pub enum TMessageType {
     Call,
     Reply,
@@ -77,14 +79,14 @@ pub enum TMessageType {
 }
 
 // The type of a code, or BAD TYPE.
-#[derive(Drop)]
+#[derive(Clone, Copy)]
 pub enum TypeRead {
     Got(TType),
     Refused(u8),
 }
 
 // What a field's code says: the struct's end, a bool with its value, another type, or BAD TYPE.
-#[derive(Drop)]
+#[derive(Clone, Copy)]
 pub enum FieldType {
     Stop,
     Truth(bool),
@@ -93,7 +95,7 @@ pub enum FieldType {
 }
 
 // The type of a message, or BAD MESSAGE TYPE.
-#[derive(Drop)]
+#[derive(Clone, Copy)]
 pub enum MessageTypeRead {
     Got(TMessageType),
     Refused(u8),
@@ -199,7 +201,7 @@ pub fn message_type_to_u8(kind: TMessageType) -> u8
 }
 
 // The limits: how deep structs and containers may nest, how long a string, how large a container and how large a message may be.
-#[derive(Drop)]
+#[derive(Clone, Copy)]
 pub struct TConfiguration {
     pub depth: usize,
     pub string: u32,

@@ -1,4 +1,6 @@
 // The check of RFC 3629: whether bytes are UTF-8.
+#![tactic(auto)]
+
 ghost use Rattle.std.specs.Prelude.{◌≡◌, true, ℕ, ◌+◌, ◌/◌, ◌<◌, ◌≤◌, length, drop, get_or};
 ghost use Rattle.utf8.specs.Utf8.{utf8, decode, width};
 

@@ -240,7 +240,7 @@ fn double(st: TCompactInputProtocol, s: &[u8]) -> TCompactInputProtocol {
 }
 
 // A reader that may go on, or not.
-#[derive(Drop)]
+#[derive(Clone, Copy)]
 struct Next {
     on: bool,
     state: TCompactInputProtocol,

@@ -1,6 +1,8 @@
 // Replays cases that outside judges have answered. A line of standard input is a case, `GROUP WORD WORD ..`; it is written again with its
 // answer behind it, `read u32 df8903 = 50399 3`. Empty lines, and lines that begin with #, are written as they stand.
 // The judges' answers, in the same form, are the file stdout.
+#![tactic(auto)]
+
 mod call_cases;
 mod number_cases;
 mod say;

@@ -86,7 +86,7 @@ pub(crate) fn write(line: &[u8]) {
 }
 
 // What is written: a varint of 32 or 64 bits, or eight bytes.
-#[derive(Drop)]
+#[derive(Clone, Copy)]
 enum Item {
     Narrow(u32),
     Wide(u64),

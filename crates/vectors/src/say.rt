@@ -2,7 +2,7 @@
 use libc::STDOUT_FILENO;
 
 // What a call answers. No refusal has the number 0: it stands for a case that is not known.
-#[derive(Drop)]
+#[derive(Clone, Copy)]
 pub(crate) enum Answer {
     Number(u64, usize),
     Signed(i64, usize),

@@ -1,4 +1,6 @@
 // The list of wanted field ids with their types, by number, and the test that refuses it: BAD LIST.
+#![tactic(auto)]
+
 ghost use Rattle.std.specs.Prelude.{◌≡◌, ◌≤◌, length, drop};
 ghost use Rattle.wanted.specs.Wanted.{same_id, among, distinct, wantable, wantables, listed};
 

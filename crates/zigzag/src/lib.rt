@@ -1,4 +1,6 @@
 // Signed numbers and their bits, and zigzag: between a signed number and the unsigned one that a varint carries.
+#![tactic(auto)]
+
 ghost use Rattle.std.specs.Prelude.{◌≡◌};
 ghost use Rattle.std.specs.Int.{w8, w16, w32, w64};
 ghost use Rattle.std.proofs.Common.{to_z, of_z};

@@ -1,0 +1,54 @@
+use Rattle.types.specs.Codes.{type_code}
+use Rattle.types.proofs.type_to_u8.Goals as goal
+
+pub returns-in-Stop : goal.returns-in-Stop
+unfolding type_code
+returns-in-Stop c = cc
+
+pub returns-in-Bool : goal.returns-in-Bool
+unfolding type_code
+returns-in-Bool c = cc
+
+pub returns-in-I08 : goal.returns-in-I08
+unfolding type_code
+returns-in-I08 c = cc
+
+pub returns-in-I16 : goal.returns-in-I16
+unfolding type_code
+returns-in-I16 c = cc
+
+pub returns-in-I32 : goal.returns-in-I32
+unfolding type_code
+returns-in-I32 c = cc
+
+pub returns-in-I64 : goal.returns-in-I64
+unfolding type_code
+returns-in-I64 c = cc
+
+pub returns-in-Double : goal.returns-in-Double
+unfolding type_code
+returns-in-Double c = cc
+
+pub returns-in-String : goal.returns-in-String
+unfolding type_code
+returns-in-String c = cc
+
+pub returns-in-List : goal.returns-in-List
+unfolding type_code
+returns-in-List c = cc
+
+pub returns-in-Set : goal.returns-in-Set
+unfolding type_code
+returns-in-Set c = cc
+
+pub returns-in-Map : goal.returns-in-Map
+unfolding type_code
+returns-in-Map c = cc
+
+pub returns-in-Struct : goal.returns-in-Struct
+unfolding type_code
+returns-in-Struct c = cc
+
+pub returns-in-Uuid : goal.returns-in-Uuid
+unfolding type_code
+returns-in-Uuid c = cc
