@@ -1,4 +1,3 @@
-use Prim.Native.Nat.{◌-◌}
 use borrow.Author.Rules.{rules}
 use Rattle.days.proofs.Cases.{check_cases, check_done}
 use Rattle.days.proofs.check_day.Goals as goal

@@ -1,4 +1,3 @@
-use Prim.Native.Nat.{◌-◌}
 use borrow.Author.Rules.{rules}
 use Rattle.days.proofs.Cases.{rise_cases}
 use Rattle.days.proofs.ends_rise.Goals as goal

@@ -1,4 +1,3 @@
-use Prim.Native.Nat.{◌-◌}
 use Rattle.days.proofs.Puts.{head_cases, head_begun}
 use Rattle.days.proofs.put_header.Goals as goal
 

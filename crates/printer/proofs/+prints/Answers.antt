@@ -1,6 +1,5 @@
 -- The cycle of printing: the room falls from a container to its elements. Assumes nothing.
 use mathlib.Core.Path.{refl}
-use Prim.Native.Nat.{◌-◌}
 use native.Mathlib.Omega.{arith}
 use Rattle.printer.proofs.Prints.{lengths}
 use Rattle.printer.proofs.Cycle.{field_in, fields_cases, items_cases, row_cases, map_cases, pair_cases, struct_in, value_cases, turns}

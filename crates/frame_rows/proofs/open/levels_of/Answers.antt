@@ -1,5 +1,4 @@
 use borrow.Author.Rules.{rules}
-use Prim.Native.Nat.{◌-◌}
 use native.Mathlib.Omega.{arith}
 use Rattle.frame_rows.proofs.Cases.{levels_none, levels_on, levels_all}
 use Rattle.frame_rows.proofs.open.levels_of.Goals as goal

@@ -1,6 +1,5 @@
 use borrow.Author.Rules.{rules}
 use mathlib.Core.Path.{refl}
-use Prim.Native.Nat.{◌-◌}
 use native.Mathlib.Omega.{arith}
 use Rattle.frame_rows.proofs.Puts.{nests_begin, nests_next, nests_end}
 use Rattle.frame_rows.proofs.open.put_nests.Goals as goal
