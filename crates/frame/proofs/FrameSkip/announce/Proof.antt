@@ -12,7 +12,7 @@ announce-spec =
     (λ c κs. search rules)
     (λ c. search rules)
     (λ c κs. search rules)
-    (λ c κs. (announce_depth _ 0 _ c.before.before.before.in_range_lem.ensures c.before.before.if1.true, omega arith, refl))
+    (λ c κs. (announce_depth _ 0 _ c.before.before.before.in_range.ensures c.before.before.if1.true, omega arith, refl))
     (λ c. search rules)
     (λ c. search announce_cases)
     (λ c. search announce_cases))
