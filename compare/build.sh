@@ -1,12 +1,12 @@
 #!/bin/sh
 # build.sh CRATE_SRC OUT [RUSTC FLAGS..]
 # Builds the crate thrift 0.25.0, unchanged, from CRATE_SRC (the folder with its lib.rs), and beside it this repository's Rust crate over
-# target/staticlib/libtagrumzil.a (`rt staticlib tagrumzil` makes it). What it makes stands in OUT. Needs rustc, and the two source packages of Debian
+# target/staticlib/libtagrumzil.a (`tools/archive` makes it). What it makes stands in OUT. Needs rustc, and the two source packages of Debian
 # librust-byteorder-dev and librust-uuid-dev: those in OUT/deb are used, and downloaded where they are not there (unpacked, not installed).
 set -eu
 HERE=$(cd "$(dirname "$0")" && pwd); SRC=$(cd "$1" && pwd); mkdir -p "$2"; OUT=$(cd "$2" && pwd); shift 2
 LIB=${TAGRUMZIL_LIB:-$HERE/../target/staticlib}
-[ -f "$LIB/libtagrumzil.a" ] || { echo "no $LIB/libtagrumzil.a: run 'rt staticlib tagrumzil' first" >&2; exit 2; }
+[ -f "$LIB/libtagrumzil.a" ] || { echo "no $LIB/libtagrumzil.a: run 'tools/archive' first" >&2; exit 2; }
 mkdir -p "$OUT/deb" "$OUT/root" "$OUT/thrift"; cd "$OUT"
 ( cd deb; for p in librust-byteorder-dev librust-uuid-dev; do
     ls $p*.deb >/dev/null 2>&1 || apt-get -qq -o APT::Sandbox::User=root download $p >/dev/null; done )

@@ -1,6 +1,6 @@
 /* Thrift's compact protocol: a reader, a writer, skip, a field picker, the day file and frames over lent memory, each function proved to meet its contract.
  *
- * Link with target/staticlib/libtagrumzil.a, which `rt staticlib tagrumzil` makes, for x86-64 Linux. It needs memcpy and memset, and nothing else. It has no data of
+ * Link with target/staticlib/libtagrumzil.a, which `tools/archive` makes, for x86-64 Linux. It needs memcpy and memset, and nothing else. It has no data of
  * its own that changes: calls on different rows and buffers may be made at the same time from different threads.
  * tagrumzil_easy.h has a reader and a writer over these calls that hold input, state and ids together.
  *

@@ -2,7 +2,7 @@
 """day_runs.py ARCHIVE COUNT [SEED]
 
 Compares the day file's exports with the model of day.py on COUNT random files, most of them broken in one place, and as many random calls of the writer: every
-answer, what a refused call leaves, and the whole lent output. Then the bound of 4,294,967,295 bytes, on memory that is mapped and hardly touched, by the request's own words. ARCHIVE is target/staticlib/libtagrumzil.a, which `rt staticlib tagrumzil` makes. It needs cc.
+answer, what a refused call leaves, and the whole lent output. Then the bound of 4,294,967,295 bytes, on memory that is mapped and hardly touched, by the request's own words. ARCHIVE is target/staticlib/libtagrumzil.a, which `tools/archive` makes. It needs cc.
 """
 import ctypes
 import mmap

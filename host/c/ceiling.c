@@ -1,4 +1,4 @@
-/* The ceiling per message, and rows that hold no state for it. From the repository's root, after `rt staticlib tagrumzil`:
+/* The ceiling per message, and rows that hold no state for it. From the repository's root, after `tools/archive`:
  *     cc -I host host/c/ceiling.c target/staticlib/libtagrumzil.a -o /tmp/ceiling && /tmp/ceiling
  */
 #include <stdio.h>

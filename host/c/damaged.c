@@ -1,5 +1,5 @@
 /* A damaged header promised two thousand million doubles in a 40-byte frame: every call refuses it, END, and leaves what was lent to it as it was, so that a
- * caller that reserves room by the count reserves none. From the repository's root, after `rt staticlib tagrumzil`:
+ * caller that reserves room by the count reserves none. From the repository's root, after `tools/archive`:
  *     cc -I host host/c/damaged.c target/staticlib/libtagrumzil.a -o /tmp/damaged && /tmp/damaged
  */
 #include <stdio.h>

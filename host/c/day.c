@@ -1,4 +1,4 @@
-/* A day's messages in one file. From the repository's root, after `rt staticlib tagrumzil`:
+/* A day's messages in one file. From the repository's root, after `tools/archive`:
  *     cc -I host host/c/day.c target/staticlib/libtagrumzil.a -o /tmp/day && /tmp/day
  */
 #include <stdio.h>

@@ -1,5 +1,5 @@
 /* Every call of the header once with an answer, every number that it writes distinct from the others, so that no two can change places unseen. What is
- * expected was worked by hand from the protocol's document. From the repository's root, after `rt staticlib tagrumzil`:
+ * expected was worked by hand from the protocol's document. From the repository's root, after `tools/archive`:
  *     cc -I host host/c/exports.c target/staticlib/libtagrumzil.a -o /tmp/exports && /tmp/exports
  */
 #include <stdio.h>

@@ -1,5 +1,5 @@
 /* Where did this trial go bad? A trial is a list of points, each with time, pressure and temperature; one byte of it is damaged. From the repository's root, after
- * `rt staticlib tagrumzil`:
+ * `tools/archive`:
  *     cc -I host host/c/fault.c target/staticlib/libtagrumzil.a -o /tmp/fault && /tmp/fault
  */
 #include <inttypes.h>

@@ -1,4 +1,4 @@
-/* A frame whose bytes come in bursts. From the repository's root, after `rt staticlib tagrumzil`:
+/* A frame whose bytes come in bursts. From the repository's root, after `tools/archive`:
  *     cc -I host host/c/frame.c target/staticlib/libtagrumzil.a -o /tmp/frame && /tmp/frame
  */
 #include <stdio.h>

@@ -1,5 +1,5 @@
 /* Does an f32 hold the numbers of this trial? A trial is a list of points, each with time, pressure and temperature. From the repository's root, after
- * `rt staticlib tagrumzil`:
+ * `tools/archive`:
  *     cc -I host host/c/single.c target/staticlib/libtagrumzil.a -o /tmp/single && /tmp/single
  */
 #include <inttypes.h>

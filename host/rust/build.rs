@@ -1,4 +1,4 @@
-// Links the archive that `rt staticlib tagrumzil` makes. TAGRUMZIL_LIB names its folder; without it the crate's own folder lib/ is taken, where the archive was put there, or
+// Links the archive that `tools/archive` makes. TAGRUMZIL_LIB names its folder; without it the crate's own folder lib/ is taken, where the archive was put there, or
 // else the repository's target/staticlib.
 use std::{env, path::Path};
 
@@ -8,7 +8,7 @@ fn main() {
     let own = if own.join("libtagrumzil.a").exists() { own } else { Path::new(&here).join("../../target/staticlib") };
     let folder = env::var("TAGRUMZIL_LIB").unwrap_or_else(|_| own.display().to_string());
     if !Path::new(&folder).join("libtagrumzil.a").exists() {
-        panic!("no libtagrumzil.a in {folder}: run `rt staticlib tagrumzil` in the repository first, or name its folder in TAGRUMZIL_LIB");
+        panic!("no libtagrumzil.a in {folder}: run `tools/archive` in the repository first, or name its folder in TAGRUMZIL_LIB");
     }
     println!("cargo:rustc-link-search=native={folder}");
     println!("cargo:rustc-link-lib=static=tagrumzil");

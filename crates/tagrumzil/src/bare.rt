@@ -9,16 +9,14 @@ use numbers::{Bits64, Int16, Varint32, Varint64, Wrote};
 // The number of this library, which a caller holds against the one it was written for: it changes with every change of a row's layout or of what a call means.
 pub const VERSION: u32 = 1;
 
-#[unsafe(no_mangle)]
-pub extern "C" fn tagrumzil_version() -> u32
+pub fn tagrumzil_version() -> u32
     ensures { result ≡ 1 }
 {
     VERSION
 }
 
 // The varint at a place of the input, and the place behind it.
-#[unsafe(no_mangle)]
-pub extern "C" fn tagrumzil_varint32(s: &[u8], at: usize, value: &mut u32, end: &mut usize) -> u8
+pub fn tagrumzil_varint32(s: &[u8], at: usize, value: &mut u32, end: &mut usize) -> u8
     ensures { Found32 value.old value.new end.old end.new result (placed32 s.now at) }
 {
     if s.len() < at {
@@ -34,8 +32,7 @@ pub extern "C" fn tagrumzil_varint32(s: &[u8], at: usize, value: &mut u32, end: 
     }
 }
 
-#[unsafe(no_mangle)]
-pub extern "C" fn tagrumzil_varint64(s: &[u8], at: usize, value: &mut u64, end: &mut usize) -> u8
+pub fn tagrumzil_varint64(s: &[u8], at: usize, value: &mut u64, end: &mut usize) -> u8
     ensures { Found64 value.old value.new end.old end.new result (placed64 s.now at) }
 {
     if s.len() < at {
@@ -52,8 +49,7 @@ pub extern "C" fn tagrumzil_varint64(s: &[u8], at: usize, value: &mut u64, end: 
 }
 
 // An i16 at a place of the input: a 32-bit zigzag number, within the range of 16 bits.
-#[unsafe(no_mangle)]
-pub extern "C" fn tagrumzil_i16(s: &[u8], at: usize, value: &mut i16, end: &mut usize) -> u8
+pub fn tagrumzil_i16(s: &[u8], at: usize, value: &mut i16, end: &mut usize) -> u8
     ensures { Found16 value.old value.new end.old end.new result (placed16 s.now at) }
 {
     if s.len() < at {
@@ -70,8 +66,7 @@ pub extern "C" fn tagrumzil_i16(s: &[u8], at: usize, value: &mut i16, end: &mut 
 }
 
 // The bits of the eight bytes at a place of the input, lowest first.
-#[unsafe(no_mangle)]
-pub extern "C" fn tagrumzil_le64(s: &[u8], at: usize, value: &mut u64, end: &mut usize) -> u8
+pub fn tagrumzil_le64(s: &[u8], at: usize, value: &mut u64, end: &mut usize) -> u8
     ensures { FoundBits value.old value.new end.old end.new result (placed_bits s.now at) }
 {
     if s.len() < at {
@@ -88,8 +83,7 @@ pub extern "C" fn tagrumzil_le64(s: &[u8], at: usize, value: &mut u64, end: &mut
 }
 
 // The number in the fewest bytes, at a place of the buffer, and the place behind it.
-#[unsafe(no_mangle)]
-pub extern "C" fn tagrumzil_put_varint(buf: &mut [u8], at: usize, n: u64, end: &mut usize) -> u8
+pub fn tagrumzil_put_varint(buf: &mut [u8], at: usize, n: u64, end: &mut usize) -> u8
     ensures { PutNumber buf.old buf.new end.old end.new result at (fewest n) }
 {
     if buf.len() < at {
@@ -105,36 +99,31 @@ pub extern "C" fn tagrumzil_put_varint(buf: &mut [u8], at: usize, n: u64, end: &
 }
 
 // How many bytes it takes.
-#[unsafe(no_mangle)]
-pub extern "C" fn tagrumzil_varint_len(n: u64) -> usize
+pub fn tagrumzil_varint_len(n: u64) -> usize
     ensures { result ≡ length (fewest n) }
 {
     numbers::varint_len(n)
 }
 
-#[unsafe(no_mangle)]
-pub extern "C" fn tagrumzil_zigzag_to_i32(n: u32) -> i32
+pub fn tagrumzil_zigzag_to_i32(n: u32) -> i32
     ensures { result ≡ unzigzag n }
 {
     zigzag::zigzag_to_i32(n)
 }
 
-#[unsafe(no_mangle)]
-pub extern "C" fn tagrumzil_zigzag_to_i64(n: u64) -> i64
+pub fn tagrumzil_zigzag_to_i64(n: u64) -> i64
     ensures { result ≡ unzigzag n }
 {
     zigzag::zigzag_to_i64(n)
 }
 
-#[unsafe(no_mangle)]
-pub extern "C" fn tagrumzil_i32_to_zigzag(n: i32) -> u32
+pub fn tagrumzil_i32_to_zigzag(n: i32) -> u32
     ensures { result ≡ zigzag n }
 {
     zigzag::i32_to_zigzag(n)
 }
 
-#[unsafe(no_mangle)]
-pub extern "C" fn tagrumzil_i64_to_zigzag(n: i64) -> u64
+pub fn tagrumzil_i64_to_zigzag(n: i64) -> u64
     ensures { result ≡ zigzag n }
 {
     zigzag::i64_to_zigzag(n)

@@ -8,8 +8,7 @@ use days::{Checked, Part};
 use numbers::Wrote;
 
 // How many messages the file has.
-#[unsafe(no_mangle)]
-pub extern "C" fn tagrumzil_check_day(file: &[u8], count: &mut usize) -> u8
+pub fn tagrumzil_check_day(file: &[u8], count: &mut usize) -> u8
     ensures { FoundCount count.old count.new result (check_of file.now) }
 {
     match days::check_day(file) {
@@ -22,13 +21,7 @@ pub extern "C" fn tagrumzil_check_day(file: &[u8], count: &mut usize) -> u8
 }
 
 // Where message k starts and ends in the file.
-#[unsafe(no_mangle)]
-pub extern "C" fn tagrumzil_day_message(
-    file: &[u8],
-    k: usize,
-    start: &mut usize,
-    end: &mut usize,
-) -> u8
+pub fn tagrumzil_day_message(file: &[u8], k: usize, start: &mut usize, end: &mut usize) -> u8
     ensures { FoundPart start.old start.new end.old end.new result (message_of file.now k) }
 {
     match days::find_message(file, k) {
@@ -42,13 +35,7 @@ pub extern "C" fn tagrumzil_day_message(
 }
 
 // The file of the messages that stand one behind the other in `bytes`, each up to its end.
-#[unsafe(no_mangle)]
-pub extern "C" fn tagrumzil_write_day(
-    out: &mut [u8],
-    bytes: &[u8],
-    ends: &[usize],
-    length: &mut usize,
-) -> u8
+pub fn tagrumzil_write_day(out: &mut [u8], bytes: &[u8], ends: &[usize], length: &mut usize) -> u8
     ensures put_day { PutDay length.old length.new result (day_wrote out.old bytes.now ends.now) }
     ensures out_after { out.new ≡ day_put out.old bytes.now ends.now }
 {

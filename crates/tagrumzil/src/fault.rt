@@ -9,8 +9,7 @@ use rows::row;
 
 // 0 and the place behind the struct; or the number, the offset and how many steps the path has, which stand in `path`, two numbers
 // each. The row stays.
-#[unsafe(no_mangle)]
-pub extern "C" fn tagrumzil_why(
+pub fn tagrumzil_why(
     s: &[u8],
     row: &[u64],
     path: &mut [i64],

@@ -11,8 +11,7 @@ use types::TConfiguration;
 const NUMBERS: usize = 268;
 
 // A frame of an announced length, of which nothing has come.
-#[unsafe(no_mangle)]
-pub extern "C" fn tagrumzil_frame_announce(
+pub fn tagrumzil_frame_announce(
     row: &mut [u64],
     length: usize,
     depth: u32,
@@ -41,8 +40,7 @@ pub extern "C" fn tagrumzil_frame_announce(
 }
 
 // A burst: its bytes are taken, up to the frame's end. 0 with the bytes used where the frame has ended, 255 where it waits for more.
-#[unsafe(no_mangle)]
-pub extern "C" fn tagrumzil_frame_take(row: &mut [u64], burst: &[u8], used: &mut usize) -> u8
+pub fn tagrumzil_frame_take(row: &mut [u64], burst: &[u8], used: &mut usize) -> u8
     ensures { TookFrame row.old row.new burst.now used.old used.new result }
 {
     let frame = state::frame_of(row);
@@ -60,8 +58,7 @@ pub extern "C" fn tagrumzil_frame_take(row: &mut [u64], burst: &[u8], used: &mut
 }
 
 // No more bytes come.
-#[unsafe(no_mangle)]
-pub extern "C" fn tagrumzil_frame_close(row: &mut [u64], used: &mut usize) -> u8
+pub fn tagrumzil_frame_close(row: &mut [u64], used: &mut usize) -> u8
     ensures { ToldFrame row.old row.new used.old used.new result (close_of (frame_of row.old)) }
 {
     let frame = state::frame_of(row);

@@ -1,12 +1,12 @@
 // The port for C and Rust: plain numbers and slices, and a state in a lent row.
 #![tactic(auto)]
 
-mod bare;
-mod day;
-mod fault;
-mod frames;
-mod nested;
-mod picking;
-mod reading;
-mod settling;
-mod writing;
+pub mod bare;
+pub mod day;
+pub mod fault;
+pub mod frames;
+pub mod nested;
+pub mod picking;
+pub mod reading;
+pub mod settling;
+pub mod writing;

@@ -10,16 +10,14 @@ use rows::{row, structs, told};
 const IDS: usize = 64;
 
 // Over one value of the type.
-#[unsafe(no_mangle)]
-pub extern "C" fn tagrumzil_skip(s: &[u8], row: &mut [u64], kind: u8) -> u8
+pub fn tagrumzil_skip(s: &[u8], row: &mut [u64], kind: u8) -> u8
     ensures { ToldDone row.old row.new result (skip_by s.now kind (reader_of row.old)) }
 {
     let read = structs::skip_by(row::reader_of(row), s, kind);
     told::told_done(row, read)
 }
 
-#[unsafe(no_mangle)]
-pub extern "C" fn tagrumzil_read_struct_begin(s: &[u8], row: &mut [u64], ids: &mut [i16]) -> u8
+pub fn tagrumzil_read_struct_begin(s: &[u8], row: &mut [u64], ids: &mut [i16]) -> u8
     ensures { BegunRead row.old row.new ids.old ids.new result (struct_reader row.old ids.old) (struct_begin s.now (struct_reader row.old ids.old)) }
 {
     if ids.len() != IDS {
@@ -39,8 +37,7 @@ pub extern "C" fn tagrumzil_read_struct_begin(s: &[u8], row: &mut [u64], ids: &m
     0
 }
 
-#[unsafe(no_mangle)]
-pub extern "C" fn tagrumzil_read_struct_end(s: &[u8], row: &mut [u64], ids: &[i16]) -> u8
+pub fn tagrumzil_read_struct_end(s: &[u8], row: &mut [u64], ids: &[i16]) -> u8
     ensures { EndedRead row.old row.new ids.now result (struct_end s.now (struct_reader row.old ids.now)) }
 {
     if ids.len() != IDS {

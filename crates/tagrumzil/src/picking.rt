@@ -7,8 +7,7 @@ ghost use Rattle.rows.specs.Reads.{ToldDone};
 use rows::{row, told};
 
 // Three numbers for each wanted id, with its type's number: kind, start, end. The reader moves behind the struct.
-#[unsafe(no_mangle)]
-pub extern "C" fn tagrumzil_pick(
+pub fn tagrumzil_pick(
     s: &[u8],
     row: &mut [u64],
     wanted: &[i16],

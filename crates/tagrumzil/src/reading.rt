@@ -44,8 +44,7 @@ fn field_at(s: &[u8], row: &[u64]) -> FieldHead
 
 // A message's header: its type, its sequence number, and where its name stands in the input. The last id is 0 from then on, and the
 // message is counted from the header's first byte.
-#[unsafe(no_mangle)]
-pub extern "C" fn tagrumzil_read_message_begin(
+pub fn tagrumzil_read_message_begin(
     s: &[u8],
     row: &mut [u64],
     kind: &mut u8,
@@ -110,13 +109,7 @@ fn any_field(s: &[u8], row: &mut [u64], kind: &mut u8, id: &mut i16) -> u8
 
 // A field's header. Its type is 0 at the struct's end, and `id` is then left as it is. A bool field's value is in its header: the bool call hands it out.
 // One of a single byte goes from the table's row straight to where it is wanted, with no enum between.
-#[unsafe(no_mangle)]
-pub extern "C" fn tagrumzil_read_field_begin(
-    s: &[u8],
-    row: &mut [u64],
-    kind: &mut u8,
-    id: &mut i16,
-) -> u8
+pub fn tagrumzil_read_field_begin(s: &[u8], row: &mut [u64], kind: &mut u8, id: &mut i16) -> u8
     ensures { ToldField row.old row.new kind.old kind.new id.old id.new result (read_field s.now (reader_of row.old)) }
 {
     let why = row::gate(row, s.len());
@@ -148,8 +141,7 @@ pub extern "C" fn tagrumzil_read_field_begin(
 }
 
 // A bool: the one that waits from a field's header, for no byte, or else an element.
-#[unsafe(no_mangle)]
-pub extern "C" fn tagrumzil_read_bool(s: &[u8], row: &mut [u64], value: &mut bool) -> u8
+pub fn tagrumzil_read_bool(s: &[u8], row: &mut [u64], value: &mut bool) -> u8
     ensures { ToldBool row.old row.new value.old value.new result (read_bool s.now (reader_of row.old)) }
 {
     let why = row::gate(row, s.len());
@@ -173,8 +165,7 @@ pub extern "C" fn tagrumzil_read_bool(s: &[u8], row: &mut [u64], value: &mut boo
     }
 }
 
-#[unsafe(no_mangle)]
-pub extern "C" fn tagrumzil_read_i8(s: &[u8], row: &mut [u64], value: &mut i8) -> u8
+pub fn tagrumzil_read_i8(s: &[u8], row: &mut [u64], value: &mut i8) -> u8
     ensures { ToldI8 row.old row.new value.old value.new result (read_i8 s.now (reader_of row.old)) }
 {
     let why = row::gate(row, s.len());
@@ -192,8 +183,7 @@ pub extern "C" fn tagrumzil_read_i8(s: &[u8], row: &mut [u64], value: &mut i8) -
     }
 }
 
-#[unsafe(no_mangle)]
-pub extern "C" fn tagrumzil_read_i16(s: &[u8], row: &mut [u64], value: &mut i16) -> u8
+pub fn tagrumzil_read_i16(s: &[u8], row: &mut [u64], value: &mut i16) -> u8
     ensures { ToldI16 row.old row.new value.old value.new result (read_i16 s.now (reader_of row.old)) }
 {
     let why = row::gate(row, s.len());
@@ -211,8 +201,7 @@ pub extern "C" fn tagrumzil_read_i16(s: &[u8], row: &mut [u64], value: &mut i16)
     }
 }
 
-#[unsafe(no_mangle)]
-pub extern "C" fn tagrumzil_read_i32(s: &[u8], row: &mut [u64], value: &mut i32) -> u8
+pub fn tagrumzil_read_i32(s: &[u8], row: &mut [u64], value: &mut i32) -> u8
     ensures { ToldI32 row.old row.new value.old value.new result (read_i32 s.now (reader_of row.old)) }
 {
     let why = row::gate(row, s.len());
@@ -230,8 +219,7 @@ pub extern "C" fn tagrumzil_read_i32(s: &[u8], row: &mut [u64], value: &mut i32)
     }
 }
 
-#[unsafe(no_mangle)]
-pub extern "C" fn tagrumzil_read_i64(s: &[u8], row: &mut [u64], value: &mut i64) -> u8
+pub fn tagrumzil_read_i64(s: &[u8], row: &mut [u64], value: &mut i64) -> u8
     ensures { ToldI64 row.old row.new value.old value.new result (read_i64 s.now (reader_of row.old)) }
 {
     let why = row::gate(row, s.len());
@@ -250,8 +238,7 @@ pub extern "C" fn tagrumzil_read_i64(s: &[u8], row: &mut [u64], value: &mut i64)
 }
 
 // A double, as its 64 bits.
-#[unsafe(no_mangle)]
-pub extern "C" fn tagrumzil_read_double(s: &[u8], row: &mut [u64], bits: &mut u64) -> u8
+pub fn tagrumzil_read_double(s: &[u8], row: &mut [u64], bits: &mut u64) -> u8
     ensures { ToldDouble row.old row.new bits.old bits.new result (read_double s.now (reader_of row.old)) }
 {
     let why = row::gate(row, s.len());
@@ -270,13 +257,7 @@ pub extern "C" fn tagrumzil_read_double(s: &[u8], row: &mut [u64], bits: &mut u6
 }
 
 // A uuid: where its 16 bytes stand in the input.
-#[unsafe(no_mangle)]
-pub extern "C" fn tagrumzil_read_uuid(
-    s: &[u8],
-    row: &mut [u64],
-    start: &mut usize,
-    end: &mut usize,
-) -> u8
+pub fn tagrumzil_read_uuid(s: &[u8], row: &mut [u64], start: &mut usize, end: &mut usize) -> u8
     ensures { ToldPart row.old row.new start.old start.new end.old end.new result (read_uuid s.now (reader_of row.old)) }
 {
     let why = row::gate(row, s.len());
@@ -296,13 +277,7 @@ pub extern "C" fn tagrumzil_read_uuid(
 }
 
 // A binary: where its bytes stand in the input.
-#[unsafe(no_mangle)]
-pub extern "C" fn tagrumzil_read_bytes(
-    s: &[u8],
-    row: &mut [u64],
-    start: &mut usize,
-    end: &mut usize,
-) -> u8
+pub fn tagrumzil_read_bytes(s: &[u8], row: &mut [u64], start: &mut usize, end: &mut usize) -> u8
     ensures { ToldPart row.old row.new start.old start.new end.old end.new result (read_bytes s.now (reader_of row.old)) }
 {
     let why = row::gate(row, s.len());
@@ -322,13 +297,7 @@ pub extern "C" fn tagrumzil_read_bytes(
 }
 
 // A string: the same, and its bytes are UTF-8.
-#[unsafe(no_mangle)]
-pub extern "C" fn tagrumzil_read_string(
-    s: &[u8],
-    row: &mut [u64],
-    start: &mut usize,
-    end: &mut usize,
-) -> u8
+pub fn tagrumzil_read_string(s: &[u8], row: &mut [u64], start: &mut usize, end: &mut usize) -> u8
     ensures { ToldPart row.old row.new start.old start.new end.old end.new result (read_string s.now (reader_of row.old)) }
 {
     let why = row::gate(row, s.len());
@@ -348,13 +317,7 @@ pub extern "C" fn tagrumzil_read_string(
 }
 
 // A list's header: its elements' type and how many there are.
-#[unsafe(no_mangle)]
-pub extern "C" fn tagrumzil_read_list_begin(
-    s: &[u8],
-    row: &mut [u64],
-    kind: &mut u8,
-    count: &mut u32,
-) -> u8
+pub fn tagrumzil_read_list_begin(s: &[u8], row: &mut [u64], kind: &mut u8, count: &mut u32) -> u8
     ensures { ToldList row.old row.new kind.old kind.new count.old count.new result (read_list s.now (reader_of row.old)) }
 {
     let why = row::gate(row, s.len());
@@ -373,13 +336,7 @@ pub extern "C" fn tagrumzil_read_list_begin(
     }
 }
 
-#[unsafe(no_mangle)]
-pub extern "C" fn tagrumzil_read_set_begin(
-    s: &[u8],
-    row: &mut [u64],
-    kind: &mut u8,
-    count: &mut u32,
-) -> u8
+pub fn tagrumzil_read_set_begin(s: &[u8], row: &mut [u64], kind: &mut u8, count: &mut u32) -> u8
     ensures { ToldList row.old row.new kind.old kind.new count.old count.new result (read_set s.now (reader_of row.old)) }
 {
     let why = row::gate(row, s.len());
@@ -399,8 +356,7 @@ pub extern "C" fn tagrumzil_read_set_begin(
 }
 
 // A map's header: the types of its keys and values, which are 0 in an empty one, and how many there are.
-#[unsafe(no_mangle)]
-pub extern "C" fn tagrumzil_read_map_begin(
+pub fn tagrumzil_read_map_begin(
     s: &[u8],
     row: &mut [u64],
     key: &mut u8,

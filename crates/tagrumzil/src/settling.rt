@@ -10,8 +10,7 @@ use rows::{row, told};
 
 // How many of the doubles in the struct an f32 holds, how many it does not, and how many are not a number. The reader moves behind the struct; where it is refused the counts
 // stay.
-#[unsafe(no_mangle)]
-pub extern "C" fn tagrumzil_f32_counts(
+pub fn tagrumzil_f32_counts(
     s: &[u8],
     row: &mut [u64],
     yes: &mut u64,
@@ -45,13 +44,7 @@ pub extern "C" fn tagrumzil_f32_counts(
 }
 
 // The answer for each of them, in the tree's order: 0 yes, 1 no, 2 not a number; and how many there are.
-#[unsafe(no_mangle)]
-pub extern "C" fn tagrumzil_f32_answers(
-    s: &[u8],
-    row: &mut [u64],
-    answers: &mut [u8],
-    count: &mut usize,
-) -> u8
+pub fn tagrumzil_f32_answers(s: &[u8], row: &mut [u64], answers: &mut [u8], count: &mut usize) -> u8
     ensures told_row { ToldRow row.old row.new count.old count.new result (row_call (length answers.old) s.now (reader_of row.old)) }
     ensures answers_after { answers.new ≡ answered_row s.now (reader_of row.old) answers.old }
 {

@@ -18,8 +18,7 @@ use types::{FieldId, MessageTypeRead, SeqNo, TType, TypeRead};
 const IDS: usize = 64;
 
 // A message's header. A type out of 1 to 4 is BAD MESSAGE TYPE. The message is counted from the header's first byte.
-#[unsafe(no_mangle)]
-pub extern "C" fn tagrumzil_write_message_begin(
+pub fn tagrumzil_write_message_begin(
     buf: &mut [u8],
     row: &mut [u64],
     kind: u8,
@@ -47,12 +46,7 @@ pub extern "C" fn tagrumzil_write_message_begin(
 }
 
 // The struct calls save and restore the last id in a lent row of 64 ids. No byte is written.
-#[unsafe(no_mangle)]
-pub extern "C" fn tagrumzil_write_struct_begin(
-    buf: &mut [u8],
-    row: &mut [u64],
-    ids: &mut [i16],
-) -> u8
+pub fn tagrumzil_write_struct_begin(buf: &mut [u8], row: &mut [u64], ids: &mut [i16]) -> u8
     ensures begun_write { BegunWrite row.old row.new ids.old ids.new result (struct_writer row.old ids.old) (begin_writes buf.old (struct_writer row.old ids.old)) }
     ensures buf_after { buf.new ≡ begin_leaves buf.old (struct_writer row.old ids.old) }
 {
@@ -73,8 +67,7 @@ pub extern "C" fn tagrumzil_write_struct_begin(
     0
 }
 
-#[unsafe(no_mangle)]
-pub extern "C" fn tagrumzil_write_struct_end(buf: &mut [u8], row: &mut [u64], ids: &[i16]) -> u8
+pub fn tagrumzil_write_struct_end(buf: &mut [u8], row: &mut [u64], ids: &[i16]) -> u8
     ensures ended_write { EndedWrite row.old row.new ids.now result (end_writes buf.old (struct_writer row.old ids.now)) }
     ensures buf_after { buf.new ≡ end_leaves buf.old (struct_writer row.old ids.now) }
 {
@@ -96,13 +89,7 @@ pub extern "C" fn tagrumzil_write_struct_end(buf: &mut [u8], row: &mut [u64], id
 }
 
 // A field's header. Stop is no field's type. A bool's header waits for the bool call, which writes it with the value in it: the row notes the id.
-#[unsafe(no_mangle)]
-pub extern "C" fn tagrumzil_write_field_begin(
-    buf: &mut [u8],
-    row: &mut [u64],
-    kind: u8,
-    id: i16,
-) -> u8
+pub fn tagrumzil_write_field_begin(buf: &mut [u8], row: &mut [u64], kind: u8, id: i16) -> u8
     ensures { Made row.old row.new buf.old buf.new result (writer_of row.old) (field_by (writer_of row.old) kind (record { 0 = id })) }
 {
     let why = row::writer_gate(row, buf.len());
@@ -132,8 +119,7 @@ pub extern "C" fn tagrumzil_write_field_begin(
 }
 
 // The byte that ends a struct's fields.
-#[unsafe(no_mangle)]
-pub extern "C" fn tagrumzil_write_field_stop(buf: &mut [u8], row: &mut [u64]) -> u8
+pub fn tagrumzil_write_field_stop(buf: &mut [u8], row: &mut [u64]) -> u8
     ensures { Made row.old row.new buf.old buf.new result (writer_of row.old) (stop_call (writer_of row.old)) }
 {
     let why = row::writer_gate(row, buf.len());
@@ -166,8 +152,7 @@ fn waiting_bool(buf: &mut [u8], row: &mut [u64], truth: bool) -> u8
 }
 
 // An element; or the header of the bool field that waits, which is why any other call is out of turn.
-#[unsafe(no_mangle)]
-pub extern "C" fn tagrumzil_write_bool(buf: &mut [u8], row: &mut [u64], truth: bool) -> u8
+pub fn tagrumzil_write_bool(buf: &mut [u8], row: &mut [u64], truth: bool) -> u8
     ensures { Made row.old row.new buf.old buf.new result (writer_of row.old) (bool_call (writer_of row.old) truth) }
 {
     let why = row::writer_gate(row, buf.len());
@@ -185,8 +170,7 @@ pub extern "C" fn tagrumzil_write_bool(buf: &mut [u8], row: &mut [u64], truth: b
     row::wrote(row, wrote)
 }
 
-#[unsafe(no_mangle)]
-pub extern "C" fn tagrumzil_write_i8(buf: &mut [u8], row: &mut [u64], n: i8) -> u8
+pub fn tagrumzil_write_i8(buf: &mut [u8], row: &mut [u64], n: i8) -> u8
     ensures { Made row.old row.new buf.old buf.new result (writer_of row.old) (i8_call (writer_of row.old) n) }
 {
     let why = row::writer_gate(row, buf.len());
@@ -201,8 +185,7 @@ pub extern "C" fn tagrumzil_write_i8(buf: &mut [u8], row: &mut [u64], n: i8) -> 
     row::wrote(row, wrote)
 }
 
-#[unsafe(no_mangle)]
-pub extern "C" fn tagrumzil_write_i16(buf: &mut [u8], row: &mut [u64], n: i16) -> u8
+pub fn tagrumzil_write_i16(buf: &mut [u8], row: &mut [u64], n: i16) -> u8
     ensures { Made row.old row.new buf.old buf.new result (writer_of row.old) (int_call (writer_of row.old) n) }
 {
     let why = row::writer_gate(row, buf.len());
@@ -218,8 +201,7 @@ pub extern "C" fn tagrumzil_write_i16(buf: &mut [u8], row: &mut [u64], n: i16) -
     row::wrote(row, wrote)
 }
 
-#[unsafe(no_mangle)]
-pub extern "C" fn tagrumzil_write_i32(buf: &mut [u8], row: &mut [u64], n: i32) -> u8
+pub fn tagrumzil_write_i32(buf: &mut [u8], row: &mut [u64], n: i32) -> u8
     ensures { Made row.old row.new buf.old buf.new result (writer_of row.old) (int_call (writer_of row.old) n) }
 {
     let why = row::writer_gate(row, buf.len());
@@ -235,8 +217,7 @@ pub extern "C" fn tagrumzil_write_i32(buf: &mut [u8], row: &mut [u64], n: i32) -
     row::wrote(row, wrote)
 }
 
-#[unsafe(no_mangle)]
-pub extern "C" fn tagrumzil_write_i64(buf: &mut [u8], row: &mut [u64], n: i64) -> u8
+pub fn tagrumzil_write_i64(buf: &mut [u8], row: &mut [u64], n: i64) -> u8
     ensures { Made row.old row.new buf.old buf.new result (writer_of row.old) (int_call (writer_of row.old) n) }
 {
     let why = row::writer_gate(row, buf.len());
@@ -253,8 +234,7 @@ pub extern "C" fn tagrumzil_write_i64(buf: &mut [u8], row: &mut [u64], n: i64) -
 }
 
 // A double, given as its 64 bits.
-#[unsafe(no_mangle)]
-pub extern "C" fn tagrumzil_write_double(buf: &mut [u8], row: &mut [u64], bits: u64) -> u8
+pub fn tagrumzil_write_double(buf: &mut [u8], row: &mut [u64], bits: u64) -> u8
     ensures { Made row.old row.new buf.old buf.new result (writer_of row.old) (double_call (writer_of row.old) bits) }
 {
     let why = row::writer_gate(row, buf.len());
@@ -269,8 +249,7 @@ pub extern "C" fn tagrumzil_write_double(buf: &mut [u8], row: &mut [u64], bits: 
     row::wrote(row, wrote)
 }
 
-#[unsafe(no_mangle)]
-pub extern "C" fn tagrumzil_write_uuid(buf: &mut [u8], row: &mut [u64], uuid: &Uuid) -> u8
+pub fn tagrumzil_write_uuid(buf: &mut [u8], row: &mut [u64], uuid: &Uuid) -> u8
     ensures { Made row.old row.new buf.old buf.new result (writer_of row.old) (uuid_call (writer_of row.old) uuid.now) }
 {
     let why = row::writer_gate(row, buf.len());
@@ -285,8 +264,7 @@ pub extern "C" fn tagrumzil_write_uuid(buf: &mut [u8], row: &mut [u64], uuid: &U
     row::wrote(row, wrote)
 }
 
-#[unsafe(no_mangle)]
-pub extern "C" fn tagrumzil_write_bytes(buf: &mut [u8], row: &mut [u64], blob: &[u8]) -> u8
+pub fn tagrumzil_write_bytes(buf: &mut [u8], row: &mut [u64], blob: &[u8]) -> u8
     ensures { Made row.old row.new buf.old buf.new result (writer_of row.old) (bytes_call (writer_of row.old) blob.now) }
 {
     let why = row::writer_gate(row, buf.len());
@@ -302,8 +280,7 @@ pub extern "C" fn tagrumzil_write_bytes(buf: &mut [u8], row: &mut [u64], blob: &
 }
 
 // A string: bytes that are not UTF-8 are refused.
-#[unsafe(no_mangle)]
-pub extern "C" fn tagrumzil_write_string(buf: &mut [u8], row: &mut [u64], text: &[u8]) -> u8
+pub fn tagrumzil_write_string(buf: &mut [u8], row: &mut [u64], text: &[u8]) -> u8
     ensures { Made row.old row.new buf.old buf.new result (writer_of row.old) (string_call (writer_of row.old) text.now) }
 {
     let why = row::writer_gate(row, buf.len());
@@ -339,25 +316,13 @@ fn items_begin(buf: &mut [u8], row: &mut [u64], kind: u8, count: i32) -> u8
     }
 }
 
-#[unsafe(no_mangle)]
-pub extern "C" fn tagrumzil_write_list_begin(
-    buf: &mut [u8],
-    row: &mut [u64],
-    kind: u8,
-    count: i32,
-) -> u8
+pub fn tagrumzil_write_list_begin(buf: &mut [u8], row: &mut [u64], kind: u8, count: i32) -> u8
     ensures { Made row.old row.new buf.old buf.new result (writer_of row.old) (items_by (writer_of row.old) kind count) }
 {
     items_begin(buf, row, kind, count)
 }
 
-#[unsafe(no_mangle)]
-pub extern "C" fn tagrumzil_write_set_begin(
-    buf: &mut [u8],
-    row: &mut [u64],
-    kind: u8,
-    count: i32,
-) -> u8
+pub fn tagrumzil_write_set_begin(buf: &mut [u8], row: &mut [u64], kind: u8, count: i32) -> u8
     ensures { Made row.old row.new buf.old buf.new result (writer_of row.old) (items_by (writer_of row.old) kind count) }
 {
     items_begin(buf, row, kind, count)
@@ -382,8 +347,7 @@ fn pairs_begin(buf: &mut [u8], row: &mut [u64], key: TType, value: u8, count: i3
 }
 
 // A map's header. An empty map has no types, so the numbers given for them have no say.
-#[unsafe(no_mangle)]
-pub extern "C" fn tagrumzil_write_map_begin(
+pub fn tagrumzil_write_map_begin(
     buf: &mut [u8],
     row: &mut [u64],
     key: u8,

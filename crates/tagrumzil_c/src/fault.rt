@@ -1,0 +1,21 @@
+// Where and why the struct at a reader's place is refused.
+ghost use Rattle.std.specs.Prelude.{◌≡◌, length};
+ghost use Rattle.faults.specs.Fault.{why_call, why_row};
+ghost use Rattle.rows.specs.Row.{reader_of};
+ghost use Rattle.tagrumzil.specs.Fault.{ToldFault};
+
+use tagrumzil::fault;
+
+#[unsafe(no_mangle)]
+pub extern "C" fn tagrumzil_why(
+    s: &[u8],
+    row: &[u64],
+    path: &mut [i64],
+    offset: &mut usize,
+    steps: &mut usize,
+) -> u8
+    ensures told_fault { ToldFault offset.new steps.new result (why_call (length path.old) s.now (reader_of row.now)) }
+    ensures path_after { path.new ≡ why_row s.now (reader_of row.now) path.old }
+{
+    fault::tagrumzil_why(s, row, path, offset, steps)
+}
