@@ -69,7 +69,7 @@ def turned(text, here, dotted):
             return dotted.get(t, t)
         if t in here:
             return here[t]
-        if t in dotted and re.match(r" = ", text[m.end() : m.end() + 3]) and re.search(r"([{;]\s|\n\s+)$", text[max(0, m.start() - 40) : m.start()]):
+        if t in dotted and re.match(r" =[ \n]", text[m.end() : m.end() + 3]) and re.search(r"([{;]\s|\n\s+)$", text[max(0, m.start() - 40) : m.start()]):
             return dotted[t]
         return t
 

@@ -2,12 +2,11 @@
 -- written at a place is read there, and what is read depends on its own bytes alone. Assumes nothing.
 use mathlib.Core.Path.{◌≡◌, refl, sym, ap, ap₂, subst, subst⁻¹, ◌∙◌}
 use mathlib.Core.List.{List, [], ◌∷◌, ◌++◌, reverse, reverse_aux}
-use Prim.Native.Nat.{ℕ, zero, suc, ◌+◌, ◌*◌, ◌^◌, ◌≤◌, ◌<◌}
-use native.Mathlib.Nat.{add-suc, suc-add, add-zero, zero-add}
+use Prim.Native.Nat.{ℕ, suc, ◌+◌, ◌^◌, ◌≤◌, ◌<◌}
 use native.Mathlib.Omega.{arith}
 use borrow.Author.Tests.{lt-ltb, le-ltb}
 use lib.ListN.{length, get_or, take, drop, length-append, length-drop}
-use lib.Seq.{slice, slice-cons, slice_empty, length-slice, take_at}
+use lib.Seq.{slice, slice-cons, length-slice, take_at}
 use Rattle.numbers.specs.Varint.{got}
 use Rattle.numbers.specs.Fixed.{little, little_of}
 use Rattle.numbers.proofs.Found.{Bytes, bytes_nil, bytes_cons, by_lt, take_drop, as_long, no_got}

@@ -1,15 +1,11 @@
 -- What the calls' answers tell a caller, from the laws over the width: where a number ends, how large it is, that it is read back, and that
 -- bytes behind it have no say. Assumes nothing.
-use mathlib.Core.Path.{◌≡◌, refl, sym, ap, ◌∙◌}
+use mathlib.Core.Path.{◌≡◌, sym, ap, ◌∙◌}
 use mathlib.Core.List.{List, ◌++◌}
 use Prim.Native.Nat.{ℕ, ◌+◌, ◌^◌, ◌≤◌, ◌<◌}
 use native.Mathlib.Omega.{arith}
-use lib.IntN.{ℤ}
 use lib.ListN.{length, take, drop}
 use lib.Seq.{slice}
-use mir.Syntax.{Width, w16, w32, w64}
-use mir.Val.{bits, SFits, to_z, of_z}
-use mir.Facts.{Fits-of_z}
 use Rattle.numbers.specs.Varint.{Found, got, refused}
 use Rattle.numbers.specs.Answers.{as_bits32, as_bits, put_at}
 use Rattle.numbers.specs.declared.Bits32.{Bits32}

@@ -94,7 +94,7 @@ fn skip_leaf(s: &[u8], at: Place, kind: TType, limits: TConfiguration) -> Skippe
 }
 
 // A value, with `room` levels left.
-#[cycle(skip_list_skip_map_skip_pairs_skip_struct_skip_value)]
+#[cycle(skips)]
 pub fn skip_value(s: &[u8], at: Place, kind: TType, room: usize, limits: TConfiguration) -> Skipped
     ensures { result ≡ skip_by binary s.now limits room kind at.0 }
 {
@@ -119,7 +119,7 @@ pub fn skip_value(s: &[u8], at: Place, kind: TType, room: usize, limits: TConfig
 }
 
 // A list or a set that has been entered: `room` levels are left for its elements.
-#[cycle(skip_list_skip_map_skip_pairs_skip_struct_skip_value)]
+#[cycle(skips)]
 fn skip_list(s: &[u8], at: Place, room: usize, limits: TConfiguration) -> Skipped
     ensures { result ≡ skip_by binary s.now limits (suc room) T.List at.0 }
 {
@@ -151,7 +151,7 @@ fn skip_list(s: &[u8], at: Place, room: usize, limits: TConfiguration) -> Skippe
 }
 
 // A map that has been entered. A value type Stop is refused before the first key is read.
-#[cycle(skip_list_skip_map_skip_pairs_skip_struct_skip_value)]
+#[cycle(skips)]
 fn skip_map(s: &[u8], at: Place, room: usize, limits: TConfiguration) -> Skipped
     ensures { result ≡ skip_by binary s.now limits (suc room) T.Map at.0 }
 {
@@ -170,7 +170,7 @@ fn skip_map(s: &[u8], at: Place, room: usize, limits: TConfiguration) -> Skipped
 }
 
 // So many keys, each with its value.
-#[cycle(skip_list_skip_map_skip_pairs_skip_struct_skip_value)]
+#[cycle(skips)]
 fn skip_pairs(
     s: &[u8],
     at: Place,
@@ -204,7 +204,7 @@ fn skip_pairs(
 }
 
 // A struct that has been entered: its fields up to the stop.
-#[cycle(skip_list_skip_map_skip_pairs_skip_struct_skip_value)]
+#[cycle(skips)]
 fn skip_struct(s: &[u8], at: Place, room: usize, limits: TConfiguration) -> Skipped
     ensures { result ≡ skip_by binary s.now limits (suc room) T.Struct at.0 }
 {

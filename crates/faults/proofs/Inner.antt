@@ -20,7 +20,6 @@ use Rattle.faults.specs.Tracked as way
 use Rattle.faults.specs.Tracked.{Tried, Tracked, found, broke, done, and_then, labelled, after, onward, under}
 use Rattle.faults.specs.Value.{many, many_pairs, tracked}
 use Rattle.faults.specs.Trace.{Lost, fine, lost, lost_of, trace, within, inwards, Level}
-use Rattle.faults.specs.declared.Step.{Step}
 use Rattle.faults.specs.declared.Step.TheVariants as S
 use Rattle.faults.specs.declared.Inward.TheVariants as I
 use Rattle.faults.proofs.Finds.{forget}

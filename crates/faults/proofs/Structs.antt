@@ -12,7 +12,7 @@ use Rattle.types.specs.declared.TType.{TType}
 use Rattle.types.specs.declared.TType.TheVariants as T
 use Rattle.types.specs.declared.TConfiguration.{TConfiguration}
 use Rattle.types.specs.Value as val
-use Rattle.numbers.specs.Varint.{got, refused, placed}
+use Rattle.numbers.specs.Varint.{got, refused}
 use Rattle.heads.specs.Reader.{read_at}
 use Rattle.heads.specs.Heads as h
 use Rattle.heads.specs.Heads.{Field}

@@ -1,6 +1,6 @@
 -- The value that stands in the bytes, tracked: crates/skip/specs/Value.antt in the words of tracked reading, with a step of the path where a field's value, an
 -- element, a key or a map's value begins. Assumes nothing: these are definitions.
-use Rattle.std.specs.Prelude.{ℕ, zero, suc, Bool, List, length, ℤ, pos}
+use Rattle.std.specs.Prelude.{ℕ, zero, suc, length, ℤ, pos}
 use Rattle.types.specs.Refusals.{BAD_TYPE, DEPTH}
 use Rattle.types.specs.declared.TType.{TType}
 use Rattle.types.specs.declared.TType.TheVariants as T

@@ -1,14 +1,14 @@
 -- A value that begins and a move that is made, over the rows: what the code hands back at each of its returns. Assumes nothing.
-use mathlib.Core.Path.{◌≡◌, refl, sym, ap, ap₂, subst, ◌∙◌}
+use mathlib.Core.Path.{◌≡◌, refl, sym, ap, subst, ◌∙◌}
 use mathlib.Core.Bool.{Bool, true, false, cond}
 use mathlib.Core.List.{List, [], ◌∷◌}
-use Prim.Native.Nat.{ℕ, zero, suc, ◌+◌, ◌-◌, ◌*◌, ◌≤◌, ◌<◌}
+use Prim.Native.Nat.{ℕ, ◌+◌, ◌-◌, ◌≤◌, ◌<◌}
 use native.Mathlib.Omega.{arith}
-use native.Mathlib.Decide.{dec_le, dec_lt}
-use borrow.Author.Tests.{eq-eqb, ne_eqb, lt-ltb, le-ltb, le-leb, lt-leb}
-use lib.Dec.{leb, ltb, eqb}
-use lib.IntN.{ℤ, pos}
-use lib.ListN.{length, get_or, set, length-set}
+use native.Mathlib.Decide.{dec_lt}
+use borrow.Author.Tests.{lt-ltb, le-ltb, le-leb, lt-leb}
+use lib.Dec.{ltb}
+use lib.IntN.{pos}
+use lib.ListN.{length, set, length-set}
 use Rattle.types.specs.Refusals.{END, DEPTH}
 use Rattle.types.specs.declared.TType.{TType}
 use Rattle.types.specs.declared.TType.TheVariants as T
@@ -16,24 +16,21 @@ use Rattle.types.specs.declared.FieldId.{FieldId}
 use Rattle.types.specs.declared.TConfiguration.{TConfiguration}
 use Rattle.heads.specs.Answers.{id_of}
 use Rattle.frame.specs.declared.Nest.{Nest}
-use Rattle.frame.specs.declared.Nest.TheVariants.{Fields, Items, Keys, Values}
+use Rattle.frame.specs.declared.Nest.TheVariants.{Fields}
 use Rattle.frame.specs.declared.Level.{Level}
-use Rattle.frame.specs.declared.Goal.{Goal}
 use Rattle.frame.specs.declared.Goal.TheVariants as O
 use Rattle.frame.specs.declared.Wait.{Wait}
 use Rattle.frame.specs.declared.Wait.TheVariants as W
 use Rattle.frame.specs.declared.Moved.{Moved}
 use Rattle.frame.specs.declared.Moved.TheVariants as M
-use Rattle.frame.specs.declared.Now.{Now}
-use Rattle.frame.specs.declared.Now.TheVariants as N
 use Rattle.frame.specs.declared.Resting.{Resting}
 use Rattle.frame.specs.declared.Stand.{Stand}
 use Rattle.frame.specs.declared.Begun.{Begun}
 use Rattle.frame.specs.declared.Begun.TheVariants as B
-use Rattle.frame.specs.Machine.{fresh, Rest, asks, ended, stopped, ask, fits, room_for, begin, width, settled, entered}
+use Rattle.frame.specs.Machine.{fresh, Rest, stopped, ask, fits, room_for, begin, settled, entered}
 use Rattle.frame.specs.Moves.{behind_first, replaced, applied}
 use Rattle.frame.specs.Turns.{width_of, in_room, begun}
-use Rattle.frame.specs.State.{stops_at, waits_at, level_of, nest_at, held, rest_now, rest_of, Stands, asked, need, Allowed}
+use Rattle.frame.specs.State.{stops_at, waits_at, level_of, held, rest_of, Stands, asked, Allowed}
 use Rattle.frame.proofs.Held.{length_held, held_last, held_set, asked_rest}
 
 -- how a value begins

@@ -1,15 +1,11 @@
 -- Asking, one thing behind the other: what it tells, and that a final answer stays. Assumes nothing.
 use mathlib.Core.Path.{◌≡◌, refl, sym, ap, ap₂, ◌∙◌}
-use mathlib.Core.Bool.{Bool, true, false, cond}
-use mathlib.Core.Logic.{◌⊎◌, inl, inr}
 use mathlib.Core.List.{List, [], ◌∷◌, ◌++◌}
-use Prim.Native.Nat.{ℕ, zero, suc, ◌+◌, ◌-◌, ◌≤◌, ◌<◌}
-use native.Mathlib.Nat.{add-zero, add_assoc}
+use Prim.Native.Nat.{ℕ, zero, suc, ◌+◌, ◌-◌}
 use native.Mathlib.Omega.{arith}
-use native.Mathlib.Decide.{dec_le}
-use lib.ListN.{length, take, drop, length-drop, drop_of_length-le}
-use lib.Seq.{drop-drop, drop-nil, drop-append-le, drop-append-add}
-use Rattle.frame.specs.Ask.{Ask, got, refused, look, pass, passing, Plan, done, refuse, onward, and_then, Told, ends, refuses, waits, behind, told}
+use lib.ListN.{drop}
+use lib.Seq.{drop-drop}
+use Rattle.frame.specs.Ask.{Ask, got, refused, look, pass, passing, Plan, done, onward, and_then, Told, ends, refuses, waits, behind, told}
 
 -- how far behind has no say but for where it ends
 pub behind_zero : {A : Type 0} (x : Told A) → behind 0 x ≡ x

@@ -1,12 +1,12 @@
 -- What the customer asks of the calls, whatever bursts a frame's bytes come in. Assumes nothing.
 use mathlib.Core.Path.{◌≡◌, refl, sym, ap, subst, ◌∙◌}
-use mathlib.Core.Bool.{Bool, true, false, cond}
+use mathlib.Core.Bool.{Bool, true, false}
 use mathlib.Core.List.{List, [], ◌∷◌, ◌++◌, append_assoc, append-nil}
 use Prim.Native.Nat.{ℕ, ◌+◌, ◌-◌, ◌≤◌}
 use native.Mathlib.Omega.{arith}
 use lib.Dec.{ltb}
 use lib.ListN.{length}
-use Rattle.types.specs.Refusals.{END, BAD_STATE}
+use Rattle.types.specs.Refusals.{END}
 use Rattle.types.specs.Limits.{in_range}
 use Rattle.types.specs.declared.TType.TheVariants as T
 use Rattle.types.specs.declared.TConfiguration.{TConfiguration}
@@ -24,7 +24,7 @@ use Rattle.frame.specs.Ask.{Told, ends, refuses, waits}
 use Rattle.frame.specs.Plans.{Passed}
 use Rattle.frame.specs.Frame.{cut_of, missed, frame}
 use Rattle.frame.specs.Machine.{Run, ran, tells, start}
-use Rattle.frame.specs.State.{held, rest_now, rest_of, run_of, is_refusal, sound_of, answer_now, answer_of, bad_state, closed_now, close_of, shut_of, Begins, Went, Took, Standing}
+use Rattle.frame.specs.State.{held, rest_now, rest_of, run_of, sound_of, answer_now, answer_of, bad_state, closed_now, close_of, shut_of, Begins, Took, Standing}
 use Rattle.frame.proofs.Runs.{ran_cut, machine_frame}
 use Rattle.frame.proofs.Sounds.{Counted, say_counts, in_counts, in_range_lem, stands_sound}
 use Rattle.frame.proofs.Calls.{cut_most, cut_behind, more_behind}

@@ -1,36 +1,28 @@
 -- The calls: how a frame begins and closes, and that what they answer is what the frame tells, however its bytes were cut. Assumes nothing.
-use mathlib.Core.Path.{◌≡◌, refl, sym, ap, ap₂, subst, ◌∙◌}
-use mathlib.Core.Bool.{Bool, true, false, cond}
-use mathlib.Core.List.{List, [], ◌∷◌, ◌++◌}
-use Prim.Native.Nat.{ℕ, zero, suc, ◌+◌, ◌-◌, ◌≤◌, ◌<◌, ◌^◌, min}
+use mathlib.Core.Path.{◌≡◌, refl, sym, ap, subst, ◌∙◌}
+use mathlib.Core.Bool.{Bool, true, false}
+use mathlib.Core.List.{List}
+use Prim.Native.Nat.{ℕ, ◌+◌, ◌-◌, ◌≤◌, ◌<◌, min}
 use native.Mathlib.Nat.{min-eq_left, min-eq_right}
 use native.Mathlib.Omega.{arith}
 use native.Mathlib.Decide.{dec_lt}
 use borrow.Author.Tests.{lt-ltb, le-ltb}
 use lib.Dec.{ltb}
-use lib.ListN.{length}
-use Rattle.types.specs.Refusals.{END, BAD_STATE}
+use Rattle.types.specs.Refusals.{END}
 use Rattle.types.specs.Limits.{in_range}
-use Rattle.types.proofs.Limits.{Ranged, ranged}
+use Rattle.types.proofs.Limits.{ranged}
 use Rattle.types.specs.declared.TConfiguration.{TConfiguration}
 use Rattle.types.specs.declared.TType.TheVariants as T
-use Rattle.frame.specs.declared.Nest.{Nest}
 use Rattle.frame.specs.declared.Level.{Level}
-use Rattle.frame.specs.declared.Now.{Now}
-use Rattle.frame.specs.declared.Now.TheVariants as N
 use Rattle.frame.specs.declared.Stand.{Stand}
 use Rattle.frame.specs.declared.FrameSkip.{FrameSkip}
 use Rattle.frame.specs.declared.FrameAnswer.{FrameAnswer}
 use Rattle.frame.specs.declared.FrameAnswer.TheVariants as A
-use Rattle.frame.specs.declared.Taken.{Taken}
-use Rattle.frame.specs.Ask.{Told, ends, refuses, waits}
-use Rattle.frame.specs.Plans.{Passed}
-use Rattle.frame.specs.Frame.{cut_of, missed, frame}
-use Rattle.frame.specs.Machine.{Rest, entered, Run, running, ran, tells, start}
-use Rattle.frame.specs.State.{held, rest_now, rest_of, Stands, run_of, sound_of, answer_now, answer_of, bad_state, stops_at, shut_of, closed_now, close_of, Begins, Went, Took, Sound, Deep, Standing}
-use Rattle.frame.proofs.Runs.{ran_cut, machine_frame, start_sound}
+use Rattle.frame.specs.Frame.{cut_of}
+use Rattle.frame.specs.Machine.{entered, running, start}
+use Rattle.frame.specs.State.{held, rest_of, Stands, run_of, sound_of, answer_of, bad_state, stops_at, shut_of, close_of, Begins, Sound, Deep}
+use Rattle.frame.proofs.Runs.{start_sound}
 use Rattle.frame.proofs.Deep.{start_deep}
-use Rattle.frame.proofs.Sounds.{Counted, in_limits, in_counts, stands_sound}
 
 -- the cut: no later than the ceiling, and at it where announced bytes lie behind
 pub cut_most : (lim : TConfiguration) (n : ℕ) → cut_of lim n ≤ lim.message

@@ -1,15 +1,14 @@
 -- What the code's steps answer at each of their returns, from what they know there. Assumes nothing.
-use mathlib.Core.Path.{◌≡◌, refl, sym, ap, ap₂, ◌∙◌}
-use mathlib.Core.Bool.{Bool, true, false, cond}
+use mathlib.Core.Path.{◌≡◌}
+use mathlib.Core.Bool.{Bool, true, false}
 use Prim.Native.Nat.{ℕ, zero, suc, ◌+◌, ◌-◌, ◌*◌, ◌/◌, ◌%◌, ◌^◌, ◌≤◌, ◌<◌}
 use native.Mathlib.Nat.{mul-le-mul, mod-eq_of_lt}
 use native.Mathlib.Omega.{arith}
 use borrow.Author.Rules.{sfits_of}
 use borrow.Author.Tests.{eq-eqb, ne_eqb, lt-ltb, le-ltb, le-leb, lt-leb}
-use lib.Dec.{leb, ltb, eqb}
-use lib.IntN.{ℤ, pos, ◌+ℤ◌}
+use lib.IntN.{ℤ, pos}
 use lib.Signed.{lt_z}
-use mir.Syntax.{w8, w16, w32, w64}
+use mir.Syntax.{w16, w32, w64}
 use mir.Val.{Fits, SFits, to_z, of_z}
 use mir.Facts.{to_z-of_z}
 use Rattle.zigzag.proofs.Zig.{range_exact}
@@ -40,7 +39,7 @@ use Rattle.frame.specs.declared.Wait.{Wait}
 use Rattle.frame.specs.declared.Wait.TheVariants as W
 use Rattle.frame.specs.declared.Moved.{Moved}
 use Rattle.frame.specs.declared.Moved.TheVariants as M
-use Rattle.frame.specs.Machine.{fresh, id_from}
+use Rattle.frame.specs.Machine.{fresh}
 use Rattle.frame.specs.Moves.{weight_of, grown, short_id, long_id, head_move, start_move, open_move, start_pairs, open_pairs, list_move, types_move, number_move, length_move, pairs_move, goal_move, moved, Ready}
 
 -- weight

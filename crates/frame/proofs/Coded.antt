@@ -1,11 +1,11 @@
 -- The code's moves and turns are the machine's steps. Assumes nothing.
-use mathlib.Core.Path.{◌≡◌, refl, sym, ap, ap₂, ◌∙◌}
+use mathlib.Core.Path.{◌≡◌, refl, ap, ◌∙◌}
 use mathlib.Core.Bool.{Bool, true, false, cond}
 use mathlib.Core.List.{List, [], ◌∷◌}
-use Prim.Native.Nat.{ℕ, zero, suc, ◌+◌, ◌-◌, ◌*◌, ◌/◌, ◌%◌, ◌^◌, ◌≤◌, ◌<◌}
+use Prim.Native.Nat.{ℕ, zero, suc, ◌+◌, ◌-◌, ◌*◌, ◌/◌, ◌%◌, ◌^◌, ◌<◌}
 use native.Mathlib.Omega.{arith}
-use native.Mathlib.Decide.{dec_le, dec_lt}
-use borrow.Author.Tests.{eq-eqb, ne_eqb, lt-ltb, le-ltb, le-leb, lt-leb}
+use native.Mathlib.Decide.{dec_lt}
+use borrow.Author.Tests.{ne_eqb, lt-ltb, le-ltb, le-leb}
 use lib.Dec.{leb, ltb, eqb}
 use lib.IntN.{ℤ, pos, ◌+ℤ◌}
 use lib.Signed.{lt_z}
@@ -36,17 +36,15 @@ use Rattle.frame.specs.declared.Wait.{Wait}
 use Rattle.frame.specs.declared.Wait.TheVariants as W
 use Rattle.frame.specs.declared.Moved.{Moved}
 use Rattle.frame.specs.declared.Moved.TheVariants as M
-use Rattle.frame.specs.declared.Grown.{Grown}
 use Rattle.frame.specs.declared.Grown.TheVariants as G
-use Rattle.frame.specs.declared.ShortId.{ShortId}
 use Rattle.frame.specs.declared.ShortId.TheVariants as S
 use Rattle.frame.specs.declared.Begun.{Begun}
 use Rattle.frame.specs.declared.Begun.TheVariants as B
 use Rattle.frame.specs.declared.Turn.{Turn}
 use Rattle.frame.specs.declared.Turn.TheVariants as U
-use Rattle.frame.specs.Machine.{fresh, renamed, id_from, Rest, asks, ended, stopped, ask, fits, room_for, begin, width, next_pair, next_value, next_item, next, settled, entered, headed, step_head, checked, opening, opening_map, step_list, step_types, step_part, enough, inside, on_whole, stepped, Fit}
-use Rattle.frame.specs.Moves.{grown, on_grown, short_id, long_id, on_long, on_short, head_of, head_move, start_move, open_move, start_pairs, open_pairs, list_of, list_move, types_of, types_move, number_move, length_move, pairs_move, goal_move, moved, behind_first, replaced, applied}
-use Rattle.frame.specs.Turns.{width_of, in_room, begun, on_begun, value_turn, up_turn, item_turn, pair_turn, second_turn, of_nest, turned, on_turn}
+use Rattle.frame.specs.Machine.{fresh, renamed, id_from, Rest, stopped, ask, fits, room_for, begin, width, next_pair, next_value, next_item, next, settled, entered, step_head, checked, opening, opening_map, step_list, step_types, step_part, enough, inside, on_whole, stepped, Fit}
+use Rattle.frame.specs.Moves.{grown, on_grown, short_id, long_id, on_long, on_short, head_of, head_move, start_move, open_move, start_pairs, open_pairs, list_of, list_move, types_of, types_move, number_move, length_move, pairs_move, goal_move, moved, replaced, applied}
+use Rattle.frame.specs.Turns.{width_of, in_room, begun, on_begun, value_turn, up_turn, item_turn, pair_turn, second_turn, turned, on_turn}
 
 -- a function of a choice is a choice
 pick : {A B : Type 0} (f : A → B) (ok : Bool) (x y : A) → f (cond ok x y) ≡ cond ok (f x) (f y)

@@ -1,32 +1,28 @@
 -- Something is open wherever the machine waits, no more than the limit, and where it waits for a container's header there is room for it.
 -- Assumes nothing.
-use mathlib.Core.Path.{◌≡◌, refl, sym, ap, ap₂, subst, ◌∙◌}
 use mathlib.Core.Bool.{Bool, true, false, cond}
 use mathlib.Core.List.{List, [], ◌∷◌}
-use Prim.Native.Nat.{ℕ, zero, suc, ◌+◌, ◌-◌, ◌*◌, ◌/◌, ◌%◌, ◌≤◌, ◌<◌}
+use Prim.Native.Nat.{ℕ, zero, suc, ◌+◌, ◌-◌, ◌≤◌, ◌<◌}
 use native.Mathlib.Omega.{arith}
-use native.Mathlib.Decide.{dec_le, dec_lt}
+use native.Mathlib.Decide.{dec_lt}
 use borrow.Author.Tests.{lt-ltb, le-ltb}
-use lib.Dec.{leb, ltb, eqb}
-use lib.IntN.{ℤ, pos, ◌+ℤ◌}
-use lib.Signed.{lt_z}
+use lib.Dec.{leb, ltb}
+use lib.IntN.{pos}
 use lib.ListN.{length}
 use Rattle.types.specs.Refusals.{END, DEPTH, BAD_TYPE}
 use Rattle.types.specs.declared.TType.{TType}
 use Rattle.types.specs.declared.TType.TheVariants as T
-use Rattle.types.specs.declared.FieldId.{FieldId}
 use Rattle.types.specs.declared.TConfiguration.{TConfiguration}
 use Rattle.heads.specs.Answers.{id_of}
 use Rattle.frame.specs.declared.Nest.{Nest}
 use Rattle.frame.specs.declared.Nest.TheVariants.{Fields, Items, Keys, Values}
-use Rattle.frame.specs.declared.Goal.{Goal}
 use Rattle.frame.specs.declared.Goal.TheVariants as O
 use Rattle.frame.specs.declared.Wait.{Wait}
 use Rattle.frame.specs.declared.Wait.TheVariants as W
 use Rattle.frame.specs.declared.Moved.{Moved}
 use Rattle.frame.specs.declared.Moved.TheVariants as M
-use Rattle.frame.specs.Machine.{fresh, Rest, asks, ended, stopped, ask, fits, begin, width, next_pair, next_item, next, settled, entered, start}
-use Rattle.frame.specs.Moves.{behind_first, replaced, applied}
+use Rattle.frame.specs.Machine.{fresh, Rest, asks, stopped, ask, fits, begin, width, next_pair, next, settled, start}
+use Rattle.frame.specs.Moves.{applied}
 use Rattle.frame.specs.State.{need, Allowed, Deep}
 
 module _ (lim : TConfiguration) (left : ℕ) where

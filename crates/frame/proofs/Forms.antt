@@ -1,19 +1,18 @@
 -- Plans, one behind the other: the forms that the machine's steps need. Assumes nothing.
-use mathlib.Core.Path.{◌≡◌, refl, sym, ap, ap₂, fun_ext, ◌∙◌}
+use mathlib.Core.Path.{◌≡◌, refl, sym, ap, fun_ext, ◌∙◌}
 use mathlib.Core.Bool.{Bool, true, false, cond}
-use mathlib.Core.List.{List, [], ◌∷◌, ◌++◌}
-use Prim.Native.Nat.{ℕ, zero, suc, ◌+◌, ◌-◌, ◌*◌, ◌/◌, ◌%◌, ◌≤◌, ◌<◌}
+use Prim.Native.Nat.{ℕ, zero, suc, ◌+◌, ◌-◌, ◌/◌, ◌%◌, ◌≤◌, ◌<◌}
 use native.Mathlib.Omega.{arith}
-use native.Mathlib.Decide.{dec_le, dec_lt}
-use borrow.Author.Tests.{leb-true, leb-false, le-leb, lt-leb, lt-ltb, le-ltb}
-use lib.Dec.{leb, ltb}
+use native.Mathlib.Decide.{dec_le}
+use borrow.Author.Tests.{le-leb, lt-leb}
+use lib.Dec.{leb}
 use lib.IntN.{ℤ}
 use Rattle.types.specs.Refusals.{END}
 use Rattle.types.specs.Codes.{field_type}
 use Rattle.types.specs.declared.TType.{TType}
 use Rattle.heads.specs.Heads.{Field, stop, bool, value}
 use Rattle.frame.specs.Ask.{Ask, got, refused, look, pass, passing, Plan, done, refuse, onward, and_then, provided, byte, some, ahead, backed}
-use Rattle.frame.specs.Plans.{field, of_type, Passed, many, many_pairs, after, walk, fields}
+use Rattle.frame.specs.Plans.{field, of_type, Passed, after, walk, fields}
 
 pub passing_passing : {A : Type 0} (n m : ℕ) (q : Ask A) → passing n (passing m q) ≡ passing (n + m) q
 passing_passing zero m q = let e : m ≡ 0 + m = omega arith in ap (λ (k : ℕ). passing k q) e

@@ -1,13 +1,13 @@
 -- The struct that a frame is stays the outermost that is open, so that it ends with its last byte. Assumes nothing.
-use mathlib.Core.Path.{◌≡◌, refl, sym, ap, subst, ◌∙◌}
+use mathlib.Core.Path.{◌≡◌, refl, ◌∙◌}
 use mathlib.Core.Bool.{Bool, true, false, cond}
 use mathlib.Core.List.{List, [], ◌∷◌}
-use Prim.Native.Nat.{ℕ, zero, suc, ◌+◌, ◌-◌, ◌*◌, ◌/◌, ◌%◌, ◌^◌, ◌≤◌, ◌<◌}
+use Prim.Native.Nat.{ℕ, zero, suc, ◌+◌, ◌-◌, ◌*◌, ◌/◌, ◌%◌}
 use native.Mathlib.Omega.{arith}
 use lib.Dec.{leb, ltb, eqb}
 use lib.IntN.{ℤ, pos, ◌+ℤ◌}
 use lib.Signed.{lt_z}
-use Rattle.types.specs.Refusals.{END, BAD_TYPE, BAD_BOOL, FIELD_ID, LONG_VARINT, SIZE_LIMIT, NEGATIVE_SIZE, DEPTH, RANGE}
+use Rattle.types.specs.Refusals.{END, DEPTH}
 use Rattle.types.specs.Codes.{element_type, field_type}
 use Rattle.types.specs.declared.TType.{TType}
 use Rattle.types.specs.declared.TType.TheVariants as T
@@ -28,7 +28,7 @@ use Rattle.frame.specs.declared.Goal.{Goal}
 use Rattle.frame.specs.declared.Goal.TheVariants as O
 use Rattle.frame.specs.declared.Wait.{Wait}
 use Rattle.frame.specs.declared.Wait.TheVariants as W
-use Rattle.frame.specs.Machine.{fresh, renamed, id_from, Rest, asks, ended, stopped, ask, fits, room_for, begin, width, next_pair, next_value, next_item, next, settled, entered, headed, step_head, checked, opening, opening_map, step_list, step_types, step_part, enough, inside, on_whole, stepped, Run, running, ran, start}
+use Rattle.frame.specs.Machine.{fresh, id_from, Rest, asks, ended, stopped, ask, fits, room_for, begin, width, next_pair, next_item, next, settled, entered, headed, step_head, checked, opening, step_list, step_types, on_whole, stepped, ran, start}
 use Rattle.frame.specs.State.{is_fields, Sound}
 use Rattle.frame.proofs.Runs.{stepped_sound}
 

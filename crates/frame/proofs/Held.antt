@@ -1,17 +1,15 @@
 -- Rows that hold what is open, and the turns over them. Assumes nothing.
 use mathlib.Core.Path.{◌≡◌, refl, sym, ap, ap₂, subst, ◌∙◌}
 use mathlib.Core.Bool.{Bool, true, false, cond}
-use mathlib.Core.List.{List, [], ◌∷◌}
-use Prim.Native.Nat.{ℕ, zero, suc, ◌+◌, ◌-◌, ◌*◌, ◌≤◌, ◌<◌}
+use mathlib.Core.List.{List, ◌∷◌}
+use Prim.Native.Nat.{ℕ, zero, suc, ◌+◌, ◌-◌, ◌≤◌, ◌<◌}
 use native.Mathlib.Omega.{arith}
 use native.Mathlib.Decide.{dec_le, dec_lt}
-use borrow.Author.Tests.{eq-eqb, ne_eqb, lt-ltb, le-ltb, le-leb, lt-leb}
+use borrow.Author.Tests.{lt-ltb, le-ltb, le-leb, lt-leb}
 use lib.Dec.{leb, ltb, eqb}
-use lib.IntN.{ℤ, pos}
-use lib.ListN.{length, get_or, set, length-set}
+use lib.IntN.{pos}
+use lib.ListN.{length, set, length-set}
 use lib.Seq.{get_or-set_same, get_or-set_other}
-use mir.Syntax.{w64}
-use mir.Val.{Fits}
 use Rattle.types.specs.Refusals.{END, DEPTH}
 use Rattle.types.specs.declared.TType.{TType}
 use Rattle.types.specs.declared.TType.TheVariants as T
@@ -20,11 +18,9 @@ use Rattle.heads.specs.Answers.{id_of}
 use Rattle.frame.specs.declared.Nest.{Nest}
 use Rattle.frame.specs.declared.Nest.TheVariants.{Fields, Items, Keys, Values}
 use Rattle.frame.specs.declared.Level.{Level}
-use Rattle.frame.specs.declared.Goal.{Goal}
 use Rattle.frame.specs.declared.Goal.TheVariants as O
 use Rattle.frame.specs.declared.Wait.{Wait}
 use Rattle.frame.specs.declared.Wait.TheVariants as W
-use Rattle.frame.specs.declared.Now.{Now}
 use Rattle.frame.specs.declared.Now.TheVariants as N
 use Rattle.frame.specs.declared.Resting.{Resting}
 use Rattle.frame.specs.declared.Stand.{Stand}
@@ -32,7 +28,7 @@ use Rattle.frame.specs.declared.Begun.{Begun}
 use Rattle.frame.specs.declared.Begun.TheVariants as B
 use Rattle.frame.specs.declared.Turn.{Turn}
 use Rattle.frame.specs.declared.Turn.TheVariants as U
-use Rattle.frame.specs.Machine.{fresh, Rest, asks, ended, stopped, ask, next, settled}
+use Rattle.frame.specs.Machine.{fresh, Rest, asks, stopped, ask, settled}
 use Rattle.frame.specs.Turns.{width_of, in_room, begun, on_begun, value_turn, up_turn, item_turn, pair_turn, second_turn, turned, on_turn}
 use Rattle.frame.specs.State.{stops_at, waits_at, level_of, nest_at, held, rest_now, rest_of, Stands, asked}
 use Rattle.frame.proofs.Coded.{turn_is}

@@ -2,14 +2,13 @@
 use mathlib.Core.Path.{◌≡◌, refl, sym, ap, ap₂, subst, ◌∙◌}
 use mathlib.Core.Bool.{Bool, true, false, cond}
 use mathlib.Core.List.{List, [], ◌∷◌}
-use Prim.Native.Nat.{ℕ, zero, suc, ◌+◌, ◌-◌, ◌*◌, ◌/◌, ◌%◌, ◌^◌, ◌≤◌, ◌<◌}
+use Prim.Native.Nat.{ℕ, zero, suc, ◌+◌, ◌-◌, ◌*◌, ◌/◌, ◌%◌, ◌≤◌, ◌<◌}
 use native.Mathlib.Omega.{arith}
 use lib.Dec.{leb, ltb, eqb}
-use lib.IntN.{ℤ, pos, ◌+ℤ◌}
-use lib.Signed.{lt_z}
+use lib.IntN.{ℤ}
 use lib.ListN.{set, length, get_or, drop, length-drop}
 use lib.Seq.{drop-drop, get_or-drop}
-use Rattle.types.specs.Refusals.{END, BAD_TYPE, BAD_BOOL, FIELD_ID, LONG_VARINT, SIZE_LIMIT, RANGE}
+use Rattle.types.specs.Refusals.{END, BAD_BOOL, LONG_VARINT, SIZE_LIMIT, RANGE}
 use Rattle.types.specs.Codes.{element_type, field_type}
 use Rattle.types.specs.declared.TType.{TType}
 use Rattle.types.specs.declared.TypeRead.{TypeRead}
@@ -19,7 +18,7 @@ use Rattle.types.specs.declared.FieldType.TheVariants as F
 use Rattle.types.specs.declared.FieldId.{FieldId}
 use Rattle.types.specs.declared.TConfiguration.{TConfiguration}
 use Rattle.heads.specs.Heads.{least_size}
-use Rattle.heads.specs.Answers.{id_of, count_why}
+use Rattle.heads.specs.Answers.{count_why}
 use Rattle.skip.specs.Value.{startable}
 use Rattle.frame.specs.declared.Nest.{Nest}
 use Rattle.frame.specs.declared.Nest.TheVariants.{Fields, Items, Keys, Values}
@@ -42,7 +41,7 @@ use Rattle.frame.specs.declared.Stand.{Stand}
 use Rattle.frame.specs.declared.Progress.{Progress}
 use Rattle.frame.specs.declared.Now.{Now}
 use Rattle.frame.specs.declared.Now.TheVariants as N
-use Rattle.frame.specs.Machine.{fresh, id_from, Rest, asks, ended, stopped, stepped, Fit, Run, running, ran}
+use Rattle.frame.specs.Machine.{fresh, Rest, asks, ended, stopped, stepped, Fit, Run, running, ran}
 use Rattle.frame.specs.Moves.{grown, on_grown, short_id, long_id, on_long, on_short, head_of, head_move, start_move, open_move, start_pairs, open_pairs, list_of, list_move, types_of, types_move, number_move, length_move, pairs_move, goal_move, moved, Ready, applied}
 use Rattle.frame.specs.Turns.{near_move}
 use Rattle.frame.specs.State.{level_of, nest_at, held, rest_now, rest_of, Stands, goal_need, need, Allowed, Sound, Deep, Standing, progress_of, ran_to}

@@ -1,19 +1,19 @@
 -- The short way of the run: what it answers at each return, and that it is the machine's step. Assumes nothing.
 use mathlib.Core.Path.{◌≡◌, refl, sym, ap, ap₂, subst, ◌∙◌}
 use mathlib.Core.Bool.{Bool, true, false, cond}
-use mathlib.Core.List.{List, [], ◌∷◌}
-use Prim.Native.Nat.{ℕ, zero, suc, ◌+◌, ◌-◌, ◌≤◌, ◌<◌}
+use mathlib.Core.List.{List, ◌∷◌}
+use Prim.Native.Nat.{ℕ, suc, ◌+◌, ◌-◌, ◌≤◌, ◌<◌}
 use native.Mathlib.Omega.{arith}
-use native.Mathlib.Decide.{dec_le, dec_lt}
+use native.Mathlib.Decide.{dec_lt}
 use borrow.Author.Tests.{lt-ltb, le-ltb, le-leb, lt-leb}
-use lib.Dec.{leb, ltb}
+use lib.Dec.{leb}
 use lib.ListN.{length, set, length-set}
 use Rattle.types.specs.Refusals.{END}
 use Rattle.types.specs.declared.TType.{TType}
 use Rattle.types.specs.declared.FieldId.{FieldId}
 use Rattle.types.specs.declared.TConfiguration.{TConfiguration}
 use Rattle.frame.specs.declared.Nest.{Nest}
-use Rattle.frame.specs.declared.Nest.TheVariants.{Fields, Items, Keys, Values}
+use Rattle.frame.specs.declared.Nest.TheVariants.{Fields}
 use Rattle.frame.specs.declared.Level.{Level}
 use Rattle.frame.specs.declared.Wait.{Wait}
 use Rattle.frame.specs.declared.Wait.TheVariants as W
@@ -25,10 +25,7 @@ use Rattle.frame.specs.declared.Moved.{Moved}
 use Rattle.frame.specs.declared.Moved.TheVariants as M
 use Rattle.frame.specs.declared.Near.{Near}
 use Rattle.frame.specs.declared.Near.TheVariants as I
-use Rattle.frame.specs.declared.Now.{Now}
-use Rattle.frame.specs.declared.Now.TheVariants as N
 use Rattle.frame.specs.declared.Resting.{Resting}
-use Rattle.frame.specs.declared.Stand.{Stand}
 use Rattle.frame.specs.Machine.{Rest, stopped, ask, fits, width, settled, entered}
 use Rattle.frame.specs.Moves.{applied}
 use Rattle.frame.specs.Turns.{width_of, begun, on_begun, value_turn, turned, on_turn, near_stops, near_turn, near_pass, near_begun, near_value, near_move}

@@ -1,20 +1,19 @@
 -- A frame that comes in one burst: where skip passes over the whole of it, the machine's run comes to its end there. Assumes nothing.
 use mathlib.Core.Path.{◌≡◌, refl, sym, ap, ap₂, subst, ◌∙◌}
 use mathlib.Core.Bool.{Bool, true, false, cond}
-use mathlib.Core.List.{List, [], ◌∷◌, ◌++◌}
-use Prim.Native.Nat.{ℕ, zero, suc, ◌+◌, ◌-◌, ◌≤◌, ◌<◌, ◌^◌, min}
+use mathlib.Core.List.{List, [], ◌∷◌}
+use Prim.Native.Nat.{ℕ, zero, suc, ◌+◌, ◌-◌, ◌≤◌, ◌<◌}
 use native.Mathlib.Nat.{min-eq_left}
 use native.Mathlib.Omega.{arith}
 use native.Mathlib.Decide.{dec_lt}
 use borrow.Author.Rules.{sfits_of}
 use borrow.Author.Tests.{lt-ltb, le-ltb, eq-eqb, ne_eqb, eqb-true, eqb-false}
-use lib.Dec.{ltb, leb, eqb}
+use lib.Dec.{eqb}
 use lib.IntN.{ℤ, pos, negsuc}
 use lib.ListN.{length, take, drop, length-take, take-append-drop}
 use mir.Syntax.{w16}
 use mir.Val.{SFits, to_z, of_z}
 use mir.Facts.{to_z-of_z}
-use Rattle.types.specs.Refusals.{END, DEPTH}
 use Rattle.types.specs.declared.TType.TheVariants as T
 use Rattle.types.specs.declared.TConfiguration.{TConfiguration}
 use Rattle.types.specs.declared.Place.{Place}
@@ -23,21 +22,20 @@ use Rattle.types.specs.Value.{Tree}
 use Rattle.numbers.specs.Varint as num
 use Rattle.numbers.specs.Varint.{Found, placed}
 use Rattle.heads.specs.Reader as r
-use Rattle.heads.specs.Answers.{id_of, place}
+use Rattle.heads.specs.Answers.{id_of}
 use Rattle.skip.specs.Value.{value_of}
 use Rattle.skip.specs.Skip.{passed, past, skip_of}
 use Rattle.skip.specs.declared.Skipped.{Skipped}
 use Rattle.skip.specs.declared.Skipped.TheVariants as K
 use Rattle.frame.specs.declared.Nest.{Nest}
 use Rattle.frame.specs.declared.Nest.TheVariants.{Fields, Items, Keys, Values}
-use Rattle.frame.specs.declared.Level.{Level}
 use Rattle.frame.specs.declared.Wait.{Wait}
 use Rattle.frame.specs.declared.Wait.TheVariants as W
 use Rattle.frame.specs.declared.Now.{Now}
 use Rattle.frame.specs.declared.Now.TheVariants as N
 use Rattle.frame.specs.declared.Stand.{Stand}
 use Rattle.frame.specs.declared.Progress.{Progress}
-use Rattle.frame.specs.Ask.{Ask, Told, ends, refuses, waits, told}
+use Rattle.frame.specs.Ask.{Told, ends, refuses, waits, told}
 use Rattle.frame.specs.Plans.{Passed, skip_plan}
 use Rattle.frame.specs.Machine.{Rest, asks, ended, stopped, Run, running, ran, tells, start}
 use Rattle.frame.specs.State.{nest_at, held, rest_now, rest_of, Sound, Deep, Standing, progress_of, ran_to, is_none, is_first, is_head, is_start, used_by, whole_of, ends_at}

@@ -1,5 +1,5 @@
 -- The machine's runs: its rests stay sound, and it tells what the frame tells, however the bytes are cut. Assumes nothing.
-use mathlib.Core.Path.{◌≡◌, refl, sym, ap, ap₂, subst, fun_ext, ◌∙◌}
+use mathlib.Core.Path.{◌≡◌, refl, sym, ap, ap₂, ◌∙◌}
 use mathlib.Core.Bool.{Bool, true, false, cond}
 use mathlib.Core.List.{List, [], ◌∷◌, ◌++◌}
 use Prim.Native.Nat.{ℕ, zero, suc, ◌+◌, ◌-◌, ◌*◌, ◌/◌, ◌%◌, ◌^◌, ◌≤◌, ◌<◌}
@@ -11,7 +11,7 @@ use lib.IntN.{ℤ, pos, ◌+ℤ◌}
 use lib.Signed.{lt_z}
 use lib.ListN.{length, get_or, drop}
 use lib.Seq.{drop-nil}
-use Rattle.types.specs.Refusals.{END, BAD_TYPE, BAD_BOOL, FIELD_ID, LONG_VARINT, SIZE_LIMIT, NEGATIVE_SIZE, DEPTH, RANGE}
+use Rattle.types.specs.Refusals.{END, BAD_TYPE, LONG_VARINT, SIZE_LIMIT}
 use Rattle.types.specs.Codes.{numbered, type_by_number, as_field, element_type, field_type}
 use Rattle.types.specs.declared.TType.{TType}
 use Rattle.types.specs.declared.TType.TheVariants as T
@@ -31,13 +31,12 @@ use Rattle.frame.specs.declared.Goal.{Goal}
 use Rattle.frame.specs.declared.Goal.TheVariants as O
 use Rattle.frame.specs.declared.Wait.{Wait}
 use Rattle.frame.specs.declared.Wait.TheVariants as W
-use Rattle.frame.specs.Ask.{Ask, got, refused, look, pass, passing, Plan, Told, ends, refuses, waits, behind, told}
+use Rattle.frame.specs.Ask.{Ask, got, passing, Told, ends, behind, told}
 use Rattle.frame.specs.Plans.{Passed, skip_plan}
 use Rattle.frame.specs.Frame.{cut_of, missed, frame}
-use Rattle.frame.specs.Machine.{back, valued, fresh, renamed, id_from, waiting, Rest, asks, ended, stopped, meaning, ask, fits, room_for, begin, width, next_pair, next_value, next_item, next, settled, entered, headed, step_head, checked, opening, opening_map, step_list, step_types, step_part, enough, inside, on_whole, stepped, Run, running, ran, tells, start, Fit}
+use Rattle.frame.specs.Machine.{fresh, renamed, id_from, waiting, Rest, asks, ended, stopped, meaning, ask, fits, begin, width, next_pair, next_item, next, settled, entered, step_head, checked, opening, step_list, step_types, step_part, enough, inside, on_whole, stepped, ran, tells, start, Fit}
 use Rattle.frame.specs.State.{is_refusal, Sound}
 use Rattle.frame.proofs.Asks.{behind_zero, behind_behind, told_passing}
-use Rattle.frame.proofs.Forms.{done_then}
 use Rattle.frame.proofs.Steps.{stepped_means, whole_told}
 
 -- the numbers of types that there are not

@@ -1,34 +1,30 @@
 -- A state that passes the tests stands, and what the machine leads to does. Assumes nothing.
-use mathlib.Core.Path.{◌≡◌, refl, sym, ap, ap₂, subst, ◌∙◌}
+use mathlib.Core.Path.{◌≡◌, refl, sym, ap, subst, ◌∙◌}
 use mathlib.Core.Bool.{Bool, true, false, cond}
-use mathlib.Core.List.{List, [], ◌∷◌}
-use Prim.Native.Nat.{ℕ, zero, suc, ◌+◌, ◌-◌, ◌≤◌, ◌<◌, ◌^◌}
+use mathlib.Core.List.{List, ◌∷◌}
+use Prim.Native.Nat.{ℕ, ◌+◌, ◌-◌, ◌≤◌, ◌<◌}
 use native.Mathlib.Omega.{arith}
 use native.Mathlib.Decide.{dec_lt}
 use borrow.Author.Tests.{leb-true, leb-false, ltb-false, eqb-true, eqb-false, eq-eqb, ne_eqb, le-ltb, le-leb, lt-leb}
 use lib.Dec.{leb, ltb, eqb}
 use lib.ListN.{length}
-use Rattle.types.specs.Refusals.{BAD_STATE}
 use Rattle.types.specs.Limits.{in_range}
 use Rattle.types.proofs.Limits.{Ranged, ranged}
 use Rattle.types.specs.declared.TConfiguration.{TConfiguration}
 use Rattle.frame.specs.declared.Nest.{Nest}
 use Rattle.frame.specs.declared.Nest.TheVariants.{Fields, Items, Keys, Values}
 use Rattle.frame.specs.declared.Level.{Level}
-use Rattle.frame.specs.declared.Goal.{Goal}
-use Rattle.frame.specs.declared.Goal.TheVariants as O
 use Rattle.frame.specs.declared.Wait.{Wait}
 use Rattle.frame.specs.declared.Wait.TheVariants as W
 use Rattle.frame.specs.declared.Now.{Now}
 use Rattle.frame.specs.declared.Now.TheVariants as N
-use Rattle.frame.specs.declared.Stand.{Stand}
 use Rattle.frame.specs.declared.Progress.{Progress}
 use Rattle.frame.specs.declared.FrameSkip.{FrameSkip}
 use Rattle.frame.specs.declared.FrameAnswer.{FrameAnswer}
 use Rattle.frame.specs.declared.FrameAnswer.TheVariants as A
 use Rattle.frame.specs.declared.Taken.{Taken}
-use Rattle.frame.specs.Machine.{Rest, asks, ended, stopped, Fit, Run, running, ran}
-use Rattle.frame.specs.State.{nest_at, held, rest_now, rest_of, need, is_fields, ready_by, waits_well, rest_sound, is_refusal, counts_well, sound_of, answer_now, answer_of, bad_state, Sound, Deep, Standing, ran_to, run_of, Went, Took}
+use Rattle.frame.specs.Machine.{asks, ended, stopped, Fit, running, ran}
+use Rattle.frame.specs.State.{nest_at, held, rest_now, rest_of, need, ready_by, waits_well, rest_sound, is_refusal, counts_well, sound_of, answer_now, answer_of, bad_state, Sound, Deep, Standing, ran_to, run_of, Went, Took}
 use Rattle.frame.proofs.Held.{length_held, held_last}
 use Rattle.frame.proofs.Looks.{final_end, final_stop}
 

@@ -1,12 +1,12 @@
 -- Each step of the machine leaves asked what was asked. Assumes nothing.
 use mathlib.Core.Path.{◌≡◌, refl, sym, ap, ap₂, fun_ext, ◌∙◌}
 use mathlib.Core.Bool.{Bool, true, false, cond}
-use mathlib.Core.List.{List, [], ◌∷◌, ◌++◌}
+use mathlib.Core.List.{List, [], ◌∷◌}
 use Prim.Native.Nat.{ℕ, zero, suc, ◌+◌, ◌-◌, ◌*◌, ◌/◌, ◌%◌, ◌^◌, ◌≤◌, ◌<◌}
-use native.Mathlib.Nat.{add-mul, suc-mul, mul-add, mul_assoc, pow-suc, mod-add-mod}
+use native.Mathlib.Nat.{suc-mul, mul-add, mul_assoc, pow-suc, mod-add-mod}
 use native.Mathlib.Omega.{arith}
 use native.Mathlib.Decide.{dec_le, dec_lt}
-use borrow.Author.Tests.{leb-true, leb-false, ltb-true, ltb-false, le-leb, lt-leb, lt-ltb, le-ltb}
+use borrow.Author.Tests.{le-leb, lt-leb, lt-ltb, le-ltb}
 use lib.Dec.{leb, ltb, eqb}
 use lib.IntN.{ℤ, pos, ◌+ℤ◌}
 use lib.Signed.{lt_z}
@@ -21,7 +21,7 @@ use Rattle.types.specs.declared.FieldType.{FieldType}
 use Rattle.types.specs.declared.FieldType.TheVariants as F
 use Rattle.types.specs.declared.TConfiguration.{TConfiguration}
 use Rattle.zigzag.specs.Zigzag.{unzigzag, in_range16}
-use Rattle.heads.specs.Heads.{Field, stop, bool, value, least_size}
+use Rattle.heads.specs.Heads.{stop, bool, value, least_size}
 use Rattle.heads.specs.Answers.{id_of}
 use Rattle.skip.specs.Value.{startable}
 use Rattle.frame.specs.declared.Nest.{Nest}
@@ -31,11 +31,11 @@ use Rattle.frame.specs.declared.Goal.{Goal}
 use Rattle.frame.specs.declared.Goal.TheVariants as O
 use Rattle.frame.specs.declared.Wait.{Wait}
 use Rattle.frame.specs.declared.Wait.TheVariants as W
-use Rattle.frame.specs.Ask.{Ask, got, refused, look, pass, passing, Plan, done, refuse, onward, and_then, provided, byte, some, ahead, told}
+use Rattle.frame.specs.Ask.{Ask, refused, look, passing, Plan, done, refuse, and_then, provided, byte, some, ahead, told}
 use Rattle.frame.specs.Plans.{groups, number32, int32, int16, typed, counted, listed, items, mapped, pairs, items_head, pairs_head, field_id, of_type, field, Passed, number, short, truth, binary, many, many_pairs, after, walk, fields, sequence, mapping, Boxes, shut, roomy, shaped, skip_plan}
-use Rattle.frame.specs.Machine.{level, within, back, valued, partly, fresh, renamed, id_from, ranged, opened, opened_map, reached, waiting, Rest, asks, ended, stopped, meaning, ask, fits, room_for, begin, width, next_pair, next_value, next_item, next, settled, entered, headed, step_head, checked, opening, opening_map, step_list, step_types, step_part, enough, inside, on_whole, stepped, Fit}
+use Rattle.frame.specs.Machine.{within, back, valued, partly, fresh, renamed, id_from, ranged, opened, opened_map, reached, waiting, Rest, stopped, meaning, ask, fits, room_for, begin, width, next_pair, next_value, next_item, next, settled, entered, headed, step_head, checked, opening, step_list, step_types, step_part, enough, inside, on_whole, stepped, Fit}
 use Rattle.frame.proofs.Asks.{told_done}
-use Rattle.frame.proofs.Forms.{passing_passing, passing_refused, assoc, done_then, refuse_then, cond_then, provided_then, then_byte, then_none, then_some, then_ahead, then_backed, fields_step, some_zero, some_some}
+use Rattle.frame.proofs.Forms.{passing_passing, passing_refused, assoc, done_then, refuse_then, cond_then, provided_then, then_byte, then_some, then_ahead, then_backed, fields_step, some_zero, some_some}
 
 -- a number's next byte
 weight : (g x v : ℕ) → 128 ^ g * (x + 128 * v) ≡ 128 ^ g * x + 128 ^ (g + 1) * v

@@ -1,13 +1,11 @@
 -- The tests of a state: what each answers at its returns, and what a state that passes has. Assumes nothing.
-use mathlib.Core.Path.{◌≡◌, refl, sym, ap, ap₂, subst, ◌∙◌}
-use mathlib.Core.Bool.{Bool, true, false, cond}
-use mathlib.Core.List.{List, [], ◌∷◌}
-use Prim.Native.Nat.{ℕ, zero, suc, ◌+◌, ◌-◌, ◌≤◌, ◌<◌, ◌^◌}
+use mathlib.Core.Path.{◌≡◌, ap, subst, ◌∙◌}
+use mathlib.Core.Bool.{Bool, true, false}
+use mathlib.Core.List.{List}
+use Prim.Native.Nat.{ℕ, ◌+◌, ◌-◌, ◌≤◌, ◌<◌}
 use native.Mathlib.Omega.{arith}
-use native.Mathlib.Decide.{dec_le, dec_lt}
-use borrow.Author.Tests.{eq-eqb, ne_eqb, lt-ltb, le-ltb, le-leb, lt-leb, leb-true}
+use borrow.Author.Tests.{eq-eqb, ne_eqb, lt-ltb, le-ltb, le-leb, lt-leb}
 use lib.Dec.{leb, ltb, eqb}
-use lib.ListN.{length}
 use Rattle.types.specs.declared.TConfiguration.{TConfiguration}
 use Rattle.types.specs.declared.TType.{TType}
 use Rattle.types.specs.declared.FieldId.{FieldId}
@@ -19,17 +17,14 @@ use Rattle.frame.specs.declared.Goal.{Goal}
 use Rattle.frame.specs.declared.Goal.TheVariants as O
 use Rattle.frame.specs.declared.Wait.{Wait}
 use Rattle.frame.specs.declared.Wait.TheVariants as W
-use Rattle.frame.specs.declared.Now.{Now}
 use Rattle.frame.specs.declared.Now.TheVariants as N
 use Rattle.frame.specs.declared.FrameSkip.{FrameSkip}
-use Rattle.frame.specs.declared.FrameAnswer.{FrameAnswer}
 use Rattle.frame.specs.declared.FrameAnswer.TheVariants as A
 use Rattle.types.specs.Limits.{in_range}
 use Rattle.types.specs.Refusals.{END, BAD_TYPE, DEPTH, RANGE}
 use Rattle.heads.specs.Reader.{missing}
 use mir.Syntax.{w64}
 use mir.Val.{Fits}
-use Rattle.frame.specs.Machine.{Fit}
 use Rattle.frame.specs.State.{nest_at, held, rest_now, rest_of, goal_need, need, ready_by, waits_well, counts_well, is_refusal, sound_of, answer_of, Sound, Standing}
 
 -- needs and ready

@@ -1,15 +1,15 @@
 -- Plans tell, over a whole frame, what readers read: word by word, header by header, and for skip as a whole. Assumes nothing.
-use mathlib.Core.Path.{◌≡◌, refl, sym, ap, ap₂, ◌∙◌}
+use mathlib.Core.Path.{◌≡◌, refl, sym, ap, ◌∙◌}
 use mathlib.Core.Bool.{Bool, true, false, cond}
-use mathlib.Core.List.{List, [], ◌∷◌, ◌++◌}
-use Prim.Native.Nat.{ℕ, zero, suc, ◌+◌, ◌-◌, ◌*◌, ◌/◌, ◌%◌, ◌^◌, ◌≤◌, ◌<◌}
+use mathlib.Core.List.{List, [], ◌∷◌}
+use Prim.Native.Nat.{ℕ, zero, suc, ◌+◌, ◌*◌, ◌/◌, ◌%◌, ◌^◌}
 use native.Mathlib.Omega.{arith}
-use borrow.Author.Tests.{leb-true, leb-false, le-leb}
+use borrow.Author.Tests.{le-leb}
 use lib.Dec.{leb, ltb, eqb}
 use lib.IntN.{ℤ, pos, ◌+ℤ◌}
 use lib.Signed.{lt_z}
 use lib.ListN.{length, take, drop, length-drop}
-use Rattle.types.specs.Refusals.{END, BAD_TYPE, BAD_BOOL, FIELD_ID, LONG_VARINT, SIZE_LIMIT, NEGATIVE_SIZE, DEPTH, RANGE}
+use Rattle.types.specs.Refusals.{END, BAD_TYPE, FIELD_ID, LONG_VARINT, DEPTH, RANGE}
 use Rattle.types.specs.Codes.{element_type, field_type}
 use Rattle.types.specs.declared.TType.{TType}
 use Rattle.types.specs.declared.TType.TheVariants as T
@@ -20,7 +20,7 @@ use Rattle.types.specs.declared.FieldType.TheVariants as F
 use Rattle.types.specs.declared.TConfiguration.{TConfiguration}
 use Rattle.types.specs.Value as val
 use Rattle.types.specs.Value.{Tree, Trees, Pairs}
-use Rattle.zigzag.specs.Zigzag.{unzigzag, in_range16}
+use Rattle.zigzag.specs.Zigzag.{in_range16}
 use Rattle.numbers.specs.Varint as num
 use Rattle.numbers.specs.Varint.{Found, placed, more, keep, varint}
 use Rattle.heads.specs.Reader as r
@@ -31,9 +31,9 @@ use Rattle.skip.specs.Walk as w
 use Rattle.skip.specs.Walk.{Entry}
 use Rattle.skip.specs.Value as v
 use Rattle.skip.specs.Value.{startable, fields_of}
-use Rattle.frame.specs.Ask.{Ask, got, refused, look, pass, passing, Plan, done, refuse, onward, and_then, provided, byte, some, ahead, backed, Told, ends, refuses, waits, behind, told}
-use Rattle.frame.specs.Plans.{groups, number32, number64, int32, int16, typed, counted, listed, items, mapped, pairs, items_head, pairs_head, field_id, of_type, field, Passed, number, short, truth, binary, many, many_pairs, after, walk, fields, sequence, mapping, Boxes, shut, roomy, shaped, skip_plan}
-use Rattle.frame.proofs.Asks.{behind_zero, told_passing, further, told_then}
+use Rattle.frame.specs.Ask.{got, refused, passing, Plan, done, refuse, and_then, provided, byte, some, ahead, backed, Told, ends, refuses, behind, told}
+use Rattle.frame.specs.Plans.{groups, number32, int32, int16, typed, counted, listed, items, mapped, pairs, items_head, pairs_head, field_id, of_type, field, Passed, number, short, truth, binary, many, many_pairs, after, walk, fields, sequence, Boxes, shut, roomy, shaped, skip_plan}
+use Rattle.frame.proofs.Asks.{told_passing, further, told_then}
 
 -- what a reader found, told; g is what is kept of the value
 abbrev pub as_told : {A B : Type 0} → (A → B) → Found A → Told B

@@ -1,6 +1,6 @@
 -- What is asked of a frame whose length is known and whose bytes come in bursts: a byte looked at, bytes passed over, an end, a refusal.
 -- Assumes nothing: these are definitions.
-use Rattle.std.specs.Prelude.{ℕ, zero, suc, ◌+◌, ◌-◌, Bool, cond, List, [], ◌∷◌, length, take, drop, leb, ltb}
+use Rattle.std.specs.Prelude.{ℕ, zero, suc, ◌+◌, ◌-◌, Bool, cond, List, [], ◌∷◌, drop, leb}
 use Rattle.types.specs.Refusals.{END}
 
 -- the next thing asked: `look`, the next byte, which says how to go on; `pass`, so many bytes that nobody looks at

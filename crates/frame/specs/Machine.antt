@@ -1,6 +1,6 @@
 -- The machine: open containers, bytes to pass over, and what the next byte looked at says; its steps; and what each of its rests still asks.
 -- Assumes nothing: these are definitions.
-use Rattle.std.specs.Prelude.{ℕ, zero, suc, ◌+◌, ◌-◌, ◌*◌, ◌/◌, ◌%◌, ◌^◌, ◌≤◌, Bool, true, false, cond, List, [], ◌∷◌, length, eqb, leb, ltb, ℤ, pos, ◌+ℤ◌}
+use Rattle.std.specs.Prelude.{ℕ, zero, suc, ◌+◌, ◌-◌, ◌*◌, ◌/◌, ◌%◌, ◌^◌, ◌≤◌, cond, List, [], ◌∷◌, length, eqb, leb, ltb, ℤ, pos, ◌+ℤ◌}
 use Rattle.std.specs.Int.Signed.{lt_z}
 use Rattle.types.specs.Refusals.{END, BAD_TYPE, BAD_BOOL, FIELD_ID, LONG_VARINT, SIZE_LIMIT, NEGATIVE_SIZE, DEPTH, RANGE}
 use Rattle.types.specs.Codes.{element_type, field_type}
@@ -22,8 +22,8 @@ use Rattle.frame.specs.declared.Goal.{Goal}
 use Rattle.frame.specs.declared.Goal.TheVariants as O
 use Rattle.frame.specs.declared.Wait.{Wait}
 use Rattle.frame.specs.declared.Wait.TheVariants as W
-use Rattle.frame.specs.Ask.{Ask, got, refused, passing, Plan, done, refuse, and_then, provided, byte, some, ahead, Told, ends, refuses, waits}
-use Rattle.frame.specs.Plans.{groups, number, truth, counted, listed, items, mapped, Passed, many, many_pairs, fields, skip_plan}
+use Rattle.frame.specs.Ask.{Ask, got, refused, passing, Plan, done, and_then, provided, some, ahead, Told, ends, refuses, waits}
+use Rattle.frame.specs.Plans.{groups, number, truth, listed, items, mapped, Passed, many, many_pairs, fields, skip_plan}
 
 -- WHAT A REST MEANS
 

@@ -1,7 +1,7 @@
 -- What one byte leads to, apart from what is open: the machine's step as the code has it. Assumes nothing: these are definitions.
-use Rattle.std.specs.Prelude.{ℕ, zero, suc, ◌+◌, ◌-◌, ◌*◌, ◌/◌, ◌%◌, ◌^◌, ◌≤◌, Bool, true, false, cond, List, [], ◌∷◌, eqb, leb, ltb, ℤ, pos, ◌+ℤ◌}
+use Rattle.std.specs.Prelude.{ℕ, ◌+◌, ◌-◌, ◌*◌, ◌/◌, ◌%◌, ◌^◌, ◌≤◌, cond, List, [], ◌∷◌, eqb, leb, ltb, ℤ, pos, ◌+ℤ◌}
 use Rattle.std.specs.Int.Signed.{lt_z}
-use Rattle.types.specs.Refusals.{END, BAD_TYPE, BAD_BOOL, FIELD_ID, LONG_VARINT, SIZE_LIMIT, NEGATIVE_SIZE, DEPTH, RANGE}
+use Rattle.types.specs.Refusals.{END, BAD_TYPE, BAD_BOOL, FIELD_ID, LONG_VARINT, SIZE_LIMIT, RANGE}
 use Rattle.types.specs.Codes.{element_type, field_type}
 use Rattle.types.specs.declared.TType.{TType}
 use Rattle.types.specs.declared.TypeRead.{TypeRead}
@@ -27,7 +27,7 @@ use Rattle.frame.specs.declared.Grown.{Grown}
 use Rattle.frame.specs.declared.Grown.TheVariants as G
 use Rattle.frame.specs.declared.ShortId.{ShortId}
 use Rattle.frame.specs.declared.ShortId.TheVariants as S
-use Rattle.frame.specs.Machine.{fresh, id_from, Rest, asks, ended, stopped, ask, fits, settled, entered, renamed}
+use Rattle.frame.specs.Machine.{fresh, id_from, Rest, stopped, ask, fits, settled, entered}
 
 unfoldable pub weight_of : ℕ → ℕ
 weight_of n = 128 ^ n

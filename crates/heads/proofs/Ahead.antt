@@ -2,8 +2,8 @@
 use mathlib.Core.Path.{◌≡◌, refl, sym, ap, ap₂, ◌∙◌}
 use mathlib.Core.Bool.{Bool, true, false, cond}
 use mathlib.Core.Logic.{◌⊎◌, inl, inr, ⊎_elim}
-use mathlib.Core.List.{List, [], ◌∷◌}
-use Prim.Native.Nat.{ℕ, ◌+◌, ◌-◌, ◌*◌, ◌≤◌, ◌<◌}
+use mathlib.Core.List.{List}
+use Prim.Native.Nat.{ℕ, ◌+◌, ◌*◌, ◌≤◌, ◌<◌}
 use native.Mathlib.Nat.{add-zero, mul-one}
 use native.Mathlib.Omega.{arith}
 use borrow.Author.Tests.{leb-true, leb-false, le-leb, lt-leb, ltb-true, ltb-false}
@@ -24,7 +24,7 @@ use Rattle.heads.specs.declared.ListHead.{ListHead}
 use Rattle.heads.specs.declared.ListHead.TheVariants as L
 use Rattle.heads.specs.declared.MapHead.{MapHead}
 use Rattle.heads.specs.declared.MapHead.TheVariants as M
-use Rattle.heads.proofs.Lawful.{Lawful, Takes, Both, both, not_both, same, then_got, then_takes}
+use Rattle.heads.proofs.Lawful.{Lawful, Takes, both, not_both, same, then_got}
 use Rattle.heads.proofs.Steps.{found_at, step, stop_at}
 use Rattle.heads.proofs.Readers.{items_lawful, pairs_lawful, items_takes, pairs_takes}
 

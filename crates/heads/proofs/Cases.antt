@@ -1,7 +1,7 @@
 -- What the calls answer at each of their returns, from what they know there. Assumes nothing.
 use mathlib.Core.Path.{◌≡◌, refl, sym, ap, ap₂, ◌∙◌}
 use mathlib.Core.Bool.{Bool, true, false, cond}
-use mathlib.Core.List.{List, [], ◌∷◌}
+use mathlib.Core.List.{List, []}
 use mathlib.Core.Logic.{◌⊎◌, inl, inr, ⊎_elim}
 use Prim.Native.Nat.{ℕ, zero, suc, ◌+◌, ◌-◌, ◌/◌, ◌%◌, ◌^◌, ◌≤◌, ◌<◌}
 use native.Mathlib.Nat.{add-zero}
@@ -10,13 +10,13 @@ use native.Mathlib.Decide.{dec_lt}
 use borrow.Author.Rules.{sfits_of}
 use borrow.Author.Tests.{eq-eqb, ne_eqb, lt-ltb, le-ltb, le-leb, lt-leb, ltb-true}
 use lib.Dec.{leb, ltb, eqb}
-use lib.ListN.{length, get_or, take, drop, length-drop, drop_of_length-le}
+use lib.ListN.{length, get_or, take, drop, length-drop}
 use lib.Seq.{length-take-le}
 use lib.IntN.{ℤ}
 use mir.Syntax.{w8, w32, w64}
 use mir.Val.{to_z, Fits}
 use mir.Facts.{to_z-of_z}
-use Rattle.types.specs.Refusals.{END, BAD_VERSION, BAD_TYPE, BAD_BOOL, SIZE_LIMIT, NEGATIVE_SIZE, BAD_UTF8, RANGE}
+use Rattle.types.specs.Refusals.{END, BAD_VERSION, BAD_BOOL, SIZE_LIMIT, NEGATIVE_SIZE, BAD_UTF8, RANGE}
 use Rattle.types.specs.Codes.{type_code, type_by_number, element_type, message_by_number}
 use Rattle.types.specs.declared.TType.{TType}
 use Rattle.types.specs.declared.TType.TheVariants as T
@@ -43,15 +43,13 @@ use Rattle.numbers.specs.declared.Bits64.TheVariants as B64
 use Rattle.numbers.proofs.Got.{found32, found64, within32}
 use Rattle.numbers.proofs.Found.{take_drop, within}
 use Rattle.utf8.specs.Utf8.{utf8}
-use Rattle.heads.specs.Reader.{Reader, done, refuse, onward, and_then, provided, byte, some, read_at}
-use Rattle.heads.specs.Heads.{int8, number32, number64, int16, int32, int64, double, uuid, truth, binary, text, typed, counted, listed, items, mapped, pairs, Message, message_typed, named, versioned, message}
-use Rattle.heads.specs.Answers.{place, seq_of, to_i8, int8_at, to_i16, int16_at, to_i32, int32_at, to_i64, int64_at, to_double, double_at, to_bool, truth_at, to_part, some_at, uuid_at, binary_at, text_at, why_of, count_why, to_list, listed_at, items_at, to_map, mapped_at, pairs_at, to_message, named_at, kind_at, message_at}
+use Rattle.heads.specs.Reader.{done, onward, and_then, provided, some, read_at}
+use Rattle.heads.specs.Heads.{int8, number32, number64, int16, int32, int64, double, uuid, truth, binary, text, typed, counted, listed, items, mapped, pairs, message_typed, named, versioned, message}
+use Rattle.heads.specs.Answers.{place, seq_of, to_i8, int8_at, to_i16, int16_at, to_i32, int32_at, to_i64, int64_at, to_double, double_at, to_bool, truth_at, to_part, some_at, uuid_at, binary_at, text_at, count_why, to_list, listed_at, items_at, to_map, mapped_at, pairs_at, to_message, named_at, kind_at, message_at}
 use Rattle.heads.specs.declared.I8Read.TheVariants as I8
-use Rattle.heads.specs.declared.I16Read.{I16Read}
 use Rattle.heads.specs.declared.I16Read.TheVariants as I16
 use Rattle.heads.specs.declared.I32Read.TheVariants as I32
 use Rattle.heads.specs.declared.I64Read.TheVariants as I64
-use Rattle.heads.specs.declared.DoubleRead.{DoubleRead}
 use Rattle.heads.specs.declared.DoubleRead.TheVariants as D
 use Rattle.heads.specs.declared.BoolRead.TheVariants as B
 use Rattle.heads.specs.declared.PartRead.{PartRead}

@@ -1,11 +1,11 @@
 -- Reading up to a cut: what is found there stands in the input and ends no later than the cut, and back. Assumes nothing.
 use mathlib.Core.Path.{◌≡◌, refl, sym, ap, ap₂, ◌∙◌}
-use mathlib.Core.Bool.{Bool, true, false, cond, ◌&&◌}
+use mathlib.Core.Bool.{Bool}
 use mathlib.Core.List.{List}
-use Prim.Native.Nat.{ℕ, ◌+◌, ◌-◌, ◌≤◌, ◌<◌, min}
+use Prim.Native.Nat.{ℕ, ◌+◌, ◌≤◌, min}
 use native.Mathlib.Nat.{min-eq_left, min-eq_right}
 use native.Mathlib.Omega.{arith}
-use borrow.Author.Tests.{lt-ltb, le-ltb}
+use borrow.Author.Tests.{le-ltb}
 use lib.Dec.{ltb}
 use lib.ListN.{length, take, drop, length-take, length-drop}
 use lib.Seq.{take-take, take_all}
@@ -13,7 +13,7 @@ use Rattle.numbers.specs.Varint.{Found, got, refused, placed}
 use Rattle.numbers.proofs.Found.{by_lt, same_part}
 use Rattle.heads.specs.Reader.{Reader, read_at, missing, missed, read_to}
 use Rattle.heads.proofs.Lawful.{Lawful, same, not_both}
-use Rattle.heads.proofs.Ahead.{Fair, lawful_fair}
+use Rattle.heads.proofs.Ahead.{Fair}
 use Rattle.heads.proofs.Steps.{found_at}
 
 -- a cut behind the end is one at the end

@@ -1,14 +1,14 @@
 -- Every reader of a scalar and of a header is lawful, and takes at least a byte. Assumes nothing.
 use mathlib.Core.Path.{◌≡◌, refl, sym, ap, ap₂, subst, ◌∙◌}
 use mathlib.Core.Bool.{Bool, true, false, cond}
-use mathlib.Core.List.{List, [], ◌∷◌, ◌++◌}
-use Prim.Native.Nat.{ℕ, ◌+◌, ◌/◌, ◌%◌, ◌≤◌, ◌<◌}
+use mathlib.Core.List.{List, ◌++◌}
+use Prim.Native.Nat.{ℕ, ◌/◌, ◌%◌, ◌≤◌, ◌<◌}
 use native.Mathlib.Omega.{arith}
 use lib.Dec.{eqb, leb, ltb}
 use lib.IntN.{ℤ, pos, ◌+ℤ◌}
 use lib.Signed.{lt_z}
 use lib.ListN.{length, take}
-use lib.Seq.{take-append-le, take-take, length-take-le, take_at}
+use lib.Seq.{length-take-le, take_at}
 use Rattle.types.specs.Refusals.{RANGE}
 use Rattle.types.specs.Codes.{element_type, field_type, message_by_number}
 use Rattle.types.specs.declared.TType.{TType}
@@ -23,9 +23,9 @@ use Rattle.types.specs.declared.TConfiguration.{TConfiguration}
 use Rattle.numbers.specs.Varint.{Found, got, refused, groups, keep, varint}
 use Rattle.zigzag.specs.Zigzag.{unzigzag, in_range16}
 use Rattle.numbers.proofs.Found.{took, local}
-use Rattle.heads.specs.Reader.{Reader, done, refuse, and_then, provided, byte, some}
-use Rattle.heads.specs.Heads.{int8, number32, number64, int16, int32, int64, double, uuid, truth, binary, text, typed, counted, listed, items, mapped, pairs, field_id, of_type, field, Field, message_typed, named, versioned, message}
-use Rattle.heads.proofs.Lawful.{Lawful, Takes, Both, both, not_both, done_lawful, refuse_lawful, then_lawful, cond_lawful, provided_lawful, byte_lawful, some_lawful, byte_takes, then_takes}
+use Rattle.heads.specs.Reader.{Reader, done, refuse, and_then, provided, some}
+use Rattle.heads.specs.Heads.{int8, number32, number64, int16, int32, int64, double, uuid, truth, binary, text, typed, counted, listed, items, mapped, pairs, field_id, of_type, field, message_typed, named, versioned, message}
+use Rattle.heads.proofs.Lawful.{Lawful, Takes, Both, both, not_both, done_lawful, refuse_lawful, then_lawful, provided_lawful, byte_lawful, some_lawful, byte_takes, then_takes}
 
 -- varints
 kept : (w : ℕ) (x : Found ℕ) (v n : ℕ) → keep w x ≡ got v n → (u : ℕ) × (x ≡ got u n)
@@ -106,7 +106,7 @@ pub record Unzigged (bs : List ℕ) (z : ℤ) (n : ℕ) : Type 0 where
 pub was32 : (bs : List ℕ) (z : ℤ) (n : ℕ) → int32 bs ≡ got z n → Unzigged bs z n
 unfolding int32 and_then done
 was32 bs z n e =
-    let f = both (number32 bs) _ bs z n e in
+    let f = both (number32 bs) (λ (v : ℕ). done (unzigzag v)) bs z n e in
     let none : f.more ≡ 0 = cc in
     record { value = f.one; read = f.first ∙ ap (got f.one) (omega (arith, f.all)); is = cc }
 

@@ -1,7 +1,7 @@
 -- Counts that can't be there, computed on what the header calls answer. Assumes nothing.
 use mathlib.Core.Path.{◌≡◌, refl}
 use mathlib.Core.List.{List, [], ◌∷◌, ◌++◌}
-use Prim.Native.Nat.{ℕ, ◌+◌, ◌*◌}
+use Prim.Native.Nat.{ℕ, ◌*◌}
 use lib.ListN.{length, replicate}
 use Rattle.types.specs.Refusals.{END, BAD_TYPE, SIZE_LIMIT, NEGATIVE_SIZE}
 use Rattle.types.specs.Codes.{type_by_number, element_type}

@@ -1,11 +1,11 @@
 -- What the bytes of a scalar and of a header say: the compact protocol document as the scope paper reads it, under "Numbers" and "Headers".
 -- Assumes nothing: these are definitions.
-use Rattle.std.specs.Prelude.{ℕ, ◌+◌, ◌*◌, ◌/◌, ◌%◌, Bool, true, false, cond, List, eqb, leb, ltb, ℤ, pos, ◌+ℤ◌}
+use Rattle.std.specs.Prelude.{ℕ, ◌+◌, ◌*◌, ◌/◌, ◌%◌, Bool, cond, List, eqb, leb, ltb, ℤ, pos, ◌+ℤ◌}
 use Rattle.std.specs.Int.Signed.{lt_z}
 use Rattle.std.specs.Int.{w8, w32}
 use Rattle.std.proofs.Common.{to_z}
 use Rattle.types.specs.Refusals.{BAD_VERSION, BAD_BOOL, FIELD_ID, SIZE_LIMIT, NEGATIVE_SIZE, BAD_UTF8, RANGE}
-use Rattle.types.specs.Codes.{type_by_number, element_type, field_type, message_by_number}
+use Rattle.types.specs.Codes.{element_type, field_type, message_by_number}
 use Rattle.types.specs.declared.TType.{TType}
 use Rattle.types.specs.declared.TType.TheVariants as T
 use Rattle.types.specs.declared.TypeRead.{TypeRead}

@@ -1,5 +1,5 @@
 -- Readers: what takes bytes from the front of those that are left, and how readers are put together. Assumes nothing: these are definitions.
-use Rattle.std.specs.Prelude.{ℕ, ◌+◌, ◌≡◌, Bool, cond, ◌&&◌, List, [], ◌∷◌, length, take, drop, leb, ltb, eqb}
+use Rattle.std.specs.Prelude.{ℕ, ◌≡◌, Bool, cond, ◌&&◌, List, [], ◌∷◌, length, take, drop, leb, ltb, eqb}
 use Rattle.types.specs.Refusals.{END, MESSAGE_SIZE}
 use Rattle.numbers.specs.Varint.{Found, got, refused, placed}
 

@@ -1,6 +1,6 @@
 -- What the calls answer at each of their returns, from what they know there. Assumes nothing.
 use mathlib.Core.Path.{◌≡◌, refl, sym, ap, ◌∙◌}
-use mathlib.Core.List.{List, []}
+use mathlib.Core.List.{List}
 use mathlib.Core.Bool.{Bool, true, false}
 use Prim.Native.Nat.{ℕ, ◌+◌, ◌-◌, ◌*◌, ◌≤◌, ◌<◌, min}
 use native.Mathlib.Nat.{min-eq_left, min-eq_right}
@@ -22,10 +22,10 @@ use Rattle.types.specs.declared.Place.{Place}
 use Rattle.types.specs.declared.FieldId.{FieldId}
 use Rattle.types.specs.declared.SeqNo.{SeqNo}
 use Rattle.numbers.specs.Varint.{Found, got, refused}
-use Rattle.heads.specs.Reader.{Reader, read_at, missing, missed, read_to}
+use Rattle.heads.specs.Reader.{Reader, read_at, missing, missed}
 use Rattle.heads.proofs.Cut.{cut_is}
 use Rattle.heads.specs.Heads.{int8, int16, int32, int64, double, truth, uuid, binary, text, items_head, pairs_head, Field, stop, bool, value, field, Message, message}
-use Rattle.heads.specs.Answers.{place, id_of, to_i8, to_i16, to_i32, to_i64, to_double, to_bool, to_part, to_list, to_map, to_field, to_message, int8_at, int16_at, int32_at, int64_at, double_at, truth_at, uuid_at, binary_at, text_at, items_head_at, pairs_head_at, field_at, message_at}
+use Rattle.heads.specs.Answers.{id_of, to_i8, to_i16, to_i32, to_i64, to_double, to_bool, to_part, to_list, to_map, to_field, to_message, int8_at, int16_at, int32_at, int64_at, double_at, truth_at, uuid_at, binary_at, text_at, items_head_at, pairs_head_at, field_at, message_at}
 use Rattle.heads.specs.declared.BoolRead.{BoolRead}
 use Rattle.heads.specs.declared.BoolRead.TheVariants as hB
 use Rattle.heads.specs.declared.I8Read.{I8Read}
@@ -49,7 +49,7 @@ use Rattle.heads.specs.declared.FieldHead.TheVariants as hF
 use Rattle.heads.specs.declared.MessageHead.{MessageHead}
 use Rattle.heads.specs.declared.MessageHead.TheVariants as hH
 use Rattle.input.specs.State.{State, sound, gate, cut_of, begun_here, moved_to, with_last, with_pending, entered, left}
-use Rattle.input.specs.Outcome.{Outcome, answers, declines, from, calls_to, calls, cut_here, stays, element, bools, begins, ends, anew, on_field}
+use Rattle.input.specs.Outcome.{Outcome, answers, declines, from, calls_to, cut_here, stays, element, bools, begins, ends, anew, on_field}
 use Rattle.input.specs.Answers.{as_bool, as_i8, as_i16, as_i32, as_i64, as_double, as_part, as_list, as_map, as_field, as_message, as_done}
 use Rattle.input.specs.Calls as call
 use Rattle.input.specs.declared.Awaited.TheVariants as W

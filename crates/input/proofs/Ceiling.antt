@@ -1,22 +1,22 @@
 -- "a byte missed there, with input behind it, gives 19, MESSAGE SIZE, and a byte missed at the true end gives END": 19 is given only where the message's
 -- ceiling cuts the input off, and END only where it does not. Assumes nothing.
 use mathlib.Core.Path.{◌≡◌, refl, sym, ap, ◌∙◌}
-use mathlib.Core.Bool.{Bool, true, false, cond, ◌&&◌}
+use mathlib.Core.Bool.{Bool, true, false}
 use mathlib.Core.List.{List}
 use Prim.Native.Nat.{ℕ, ◌≤◌, ◌<◌}
 use native.Mathlib.Omega.{arith}
-use borrow.Author.Tests.{eq-eqb, ne_eqb, eqb-true, ltb-true, ltb-false}
+use borrow.Author.Tests.{eq-eqb, ltb-true, ltb-false}
 use lib.Dec.{eqb, ltb}
 use lib.ListN.{length, take, drop}
 use Rattle.types.specs.Refusals.{END, OUT_OF_TURN, BAD_STATE, MESSAGE_SIZE}
-use Rattle.numbers.specs.Varint.{Found, got, refused, placed}
-use Rattle.heads.specs.Reader.{Reader, read_at, read_to, missing, missed}
+use Rattle.numbers.specs.Varint.{Found, got, refused}
+use Rattle.heads.specs.Reader.{Reader, read_at, read_to, missing}
 use Rattle.heads.specs.Heads.{int8, int16, int32, int64, double, uuid, truth, binary, text, items_head, pairs_head, field, message}
 use Rattle.heads.proofs.Cut.{missed_no}
 use Rattle.heads.proofs.Steps.{lost_at}
-use Rattle.input.specs.State.{State, cut_of, sound, waits, gate}
-use Rattle.input.specs.Outcome.{Outcome, declines, from, calls_to, calls, cut_here, stays, element, taken, bools, anew, on_field}
-use Rattle.input.specs.Answers.{as_bool, as_i8, as_i16, as_i32, as_i64, as_double, as_part, as_list, as_map, as_field, as_message, number_bool, number_i8, number_i16, number_i32, number_i64, number_double, number_part, number_list, number_map, number_field, number_message}
+use Rattle.input.specs.State.{State, cut_of, sound}
+use Rattle.input.specs.Outcome.{Outcome, from, calls_to, cut_here, stays, element, taken, bools, anew, on_field}
+use Rattle.input.specs.Answers.{as_i8, as_i16, as_i32, as_i64, as_double, as_part, as_list, as_map, as_field, as_message, number_bool, number_i8, number_i16, number_i32, number_i64, number_double, number_part, number_list, number_map, number_field, number_message}
 use Rattle.input.specs.Calls.{read_bool, read_i8, read_i16, read_i32, read_i64, read_double, read_uuid, read_bytes, read_string, read_list, read_set, read_map, read_field, read_message}
 use Rattle.input.specs.declared.Awaited.{Awaited}
 use Rattle.input.specs.declared.Awaited.TheVariants as W

@@ -1,22 +1,14 @@
 -- The parts handed out: the places that a call answered are in order and in the input, and the part between them is what the call's reader
 -- read. Assumes nothing.
-use mathlib.Core.Path.{◌≡◌, refl, sym, ap, ap₂, ◌∙◌}
+use mathlib.Core.Path.{◌≡◌, sym, ap, ◌∙◌}
 use mathlib.Core.List.{List, []}
 use mathlib.Core.Bool.{Bool, true, false}
-use Prim.Native.Nat.{ℕ, ◌+◌, ◌-◌, ◌/◌, ◌%◌, ◌≤◌}
+use Prim.Native.Nat.{ℕ, ◌+◌, ◌-◌, ◌≤◌}
 use native.Mathlib.Omega.{arith}
 use lib.ListN.{length, take, drop}
-use lib.Seq.{slice, length-take-le}
-use lib.Dec.{leb, eqb}
-use borrow.Author.Tests.{leb-true}
-use mir.Syntax.{w32}
-use mir.Val.{to_z}
-use Rattle.types.specs.Refusals.{BAD_VERSION, SIZE_LIMIT, BAD_UTF8}
-use Rattle.types.specs.Codes.{message_by_number}
-use Rattle.types.specs.declared.TConfiguration.{TConfiguration}
-use Rattle.utf8.specs.Utf8.{utf8}
+use lib.Seq.{slice}
 use Rattle.numbers.specs.Varint.{got}
-use Rattle.heads.specs.Reader.{Reader, read_at, read_to, done, and_then, provided, byte, some}
+use Rattle.heads.specs.Reader.{Reader, read_at, read_to}
 use Rattle.heads.proofs.Lawful.{Lawful}
 use Rattle.heads.proofs.Ahead.{lawful_fair}
 use Rattle.heads.proofs.Cut.{was_cut, cut_whole}
@@ -26,7 +18,7 @@ use Rattle.types.specs.declared.Place.{Place}
 use Rattle.types.specs.declared.SeqNo.{SeqNo}
 use Rattle.types.specs.declared.TMessageType.{TMessageType}
 use Rattle.numbers.proofs.Found.{take_drop}
-use Rattle.heads.specs.Heads.{number32, uuid, binary, text, Message, message_typed, named, versioned, message}
+use Rattle.heads.specs.Heads.{uuid, binary, text, Message, message}
 use Rattle.heads.specs.Answers.{place}
 use Rattle.input.specs.State.{State, sound, cut_of}
 use Rattle.input.specs.Outcome.{Outcome, cut_here, stays, anew, answers}

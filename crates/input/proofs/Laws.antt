@@ -7,19 +7,19 @@ use Prim.Native.Nat.{ℕ, ◌≤◌, ◌<◌}
 use native.Mathlib.Omega.{arith}
 use borrow.Author.Tests.{eq-eqb, ne_eqb, leb-false}
 use lib.Dec.{leb, ltb, eqb}
-use lib.ListN.{length, take, drop, length-drop}
+use lib.ListN.{length, take, drop}
 use Rattle.types.specs.Refusals.{DEPTH, OUT_OF_TURN, BAD_STATE}
 use Rattle.types.specs.Limits.{in_range}
 use Rattle.types.specs.declared.TConfiguration.{TConfiguration}
 use Rattle.numbers.specs.Varint.{Found, got, refused, placed}
 use Rattle.numbers.proofs.Found.{as_long}
-use Rattle.heads.specs.Reader.{Reader, read_at, read_to, missing, missed}
+use Rattle.heads.specs.Reader.{Reader, read_at, read_to}
 use Rattle.heads.specs.Heads.{truth}
 use Rattle.heads.specs.Answers.{place}
-use Rattle.heads.proofs.Lawful.{Lawful, same}
+use Rattle.heads.proofs.Lawful.{Lawful}
 use Rattle.heads.proofs.Ahead.{Fair, lawful_fair}
 use Rattle.heads.proofs.Cut.{Cut, was_cut, cut_same, cut_longer, missed_no}
-use Rattle.heads.proofs.Steps.{found_at, lost_at}
+use Rattle.heads.proofs.Steps.{lost_at}
 use Rattle.heads.proofs.Readers.{truth_lawful}
 use Rattle.input.specs.State.{State, sound, cut_of, waits, gate, moved_to, with_pending, entered, left}
 use Rattle.input.specs.Outcome.{Said, says, refuses, Outcome, answers, declines, guarded, from, calls_to, calls, stays, element, bools, begins, ends}

@@ -1,16 +1,15 @@
 -- The calls whose answer asks for bytes ahead, list, set and map, on another input that still holds the header: the same, or what a missed byte is there,
 -- END or MESSAGE SIZE, with the state as given. (`behind` of their laws: on one that is no shorter, the same.) Assumes nothing.
-use mathlib.Core.Path.{◌≡◌, refl, sym, ap, ◌∙◌}
+use mathlib.Core.Path.{◌≡◌, sym, ap, ◌∙◌}
 use mathlib.Core.Bool.{true}
 use mathlib.Core.Logic.{◌⊎◌, inl, inr, ⊎_elim}
 use mathlib.Core.List.{List}
-use Prim.Native.Nat.{ℕ, ◌+◌, ◌≤◌}
+use Prim.Native.Nat.{ℕ}
 use native.Mathlib.Omega.{arith}
 use lib.Dec.{ltb}
 use lib.ListN.{length, take, drop}
 use lib.Seq.{take-take}
 use Rattle.types.specs.Refusals.{END}
-use Rattle.types.specs.declared.TType.{TType}
 use Rattle.numbers.specs.Varint.{Found, got, refused, placed}
 use Rattle.numbers.proofs.Found.{same_part}
 use Rattle.heads.specs.Reader.{Reader, read_at, read_to, missing, missed}
@@ -23,7 +22,7 @@ use Rattle.input.specs.Answers.{as_list, as_map, number_list, number_map}
 use Rattle.input.specs.Calls.{read_list, read_set, read_map}
 use Rattle.input.proofs.Gate.{is_sound}
 use Rattle.input.proofs.Refusals.{Told, items_head_told, pairs_head_told}
-use Rattle.input.proofs.Laws.{number_of, busy, agree, read_well, read_lost, Landed, landed}
+use Rattle.input.proofs.Laws.{number_of, agree, read_well, read_lost, Landed, landed}
 use Rattle.input.proofs.Each.{num_list, num_map}
 
 -- what a missed byte is in an input that a state reads

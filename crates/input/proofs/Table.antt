@@ -16,7 +16,7 @@ use Rattle.heads.specs.Heads.{number32, int16, int32, binary, text, counted, lis
 use Rattle.heads.specs.Answers.{place, id_of, seq_of}
 use Rattle.heads.proofs.Samples.{frame}
 use Rattle.input.specs.State.{State, fresh, sound, gate, moved_to, with_last}
-use Rattle.input.specs.Outcome.{calls_to, calls}
+use Rattle.input.specs.Outcome.{calls_to}
 use Rattle.input.specs.Calls.{read_i16, read_i32, read_field, read_list, read_set, read_map, read_message, name_part}
 use Rattle.input.specs.declared.I16Answer.TheVariants as I16
 use Rattle.input.specs.declared.I32Answer.TheVariants as I32

@@ -26,7 +26,7 @@ use Rattle.heads.specs.Reader.{Reader, read_at}
 use Rattle.heads.specs.Heads.{int8, int16, int32, int64, double, uuid, truth, binary, text, items, pairs, field, stop, bool, value, message}
 use Rattle.output.specs.State.{State, in_turn}
 use Rattle.puts.specs.Bytes.{above}
-use Rattle.puts.specs.Wrong.{or_else, length_wrong, text_wrong, is_stop, field_wrong, count_wrong}
+use Rattle.puts.specs.Wrong.{length_wrong, text_wrong, is_stop, field_wrong, count_wrong}
 use Rattle.puts.proofs.Checks.{both_none, length_fits, text_fits}
 use Rattle.output.specs.Calls.{Call, call, writes, leaves, message_call, field_call, stop_call, truth_call, bool_call, i8_call, int_call, double_call, uuid_call, bytes_call, string_call, items_call, pairs_call}
 use Rattle.output.specs.declared.AwaitedField.{AwaitedField}

@@ -3,10 +3,10 @@
 use mathlib.Core.Path.{◌≡◌, refl, sym, ap, subst, ◌∙◌}
 use mathlib.Core.Bool.{Bool, true, false, cond}
 use mathlib.Core.List.{List, [], ◌∷◌}
-use Prim.Native.Nat.{ℕ, zero, suc, ◌+◌, ◌/◌, ◌%◌, ◌^◌, ◌≤◌, ◌<◌}
+use Prim.Native.Nat.{ℕ, zero, suc, ◌/◌, ◌%◌, ◌≤◌, ◌<◌}
 use native.Mathlib.Omega.{arith}
 use borrow.Author.Tests.{ne_eqb}
-use lib.IntN.{ℤ, pos, negsuc, ◌+ℤ◌}
+use lib.IntN.{ℤ, pos, ◌+ℤ◌}
 use lib.ListN.{length, get_or}
 use lib.Signed.{lt_z}
 use mir.Syntax.{w16}
@@ -15,7 +15,7 @@ use Rattle.types.specs.Refusals.{FIELD_ID}
 use Rattle.types.specs.Codes.{field_type}
 use Rattle.types.specs.declared.FieldType.{FieldType}
 use Rattle.types.specs.declared.FieldType.TheVariants as FT
-use Rattle.numbers.specs.Varint.{Found, got, refused}
+use Rattle.numbers.specs.Varint.{got}
 use Rattle.numbers.proofs.Fewest.{shortest}
 use Rattle.zigzag.proofs.Zig.{zig_un}
 use Rattle.heads.specs.Reader.{done, refuse, and_then, byte}

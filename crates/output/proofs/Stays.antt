@@ -1,6 +1,6 @@
 -- A sound state stays sound, for each call: its place lies in the buffer, no earlier than its message began and no later than the message must have
 -- ended. Assumes nothing.
-use mathlib.Core.Path.{◌≡◌, refl}
+use mathlib.Core.Path.{refl}
 use mathlib.Core.Bool.{Bool, true, false, cond}
 use mathlib.Core.List.{List}
 use Prim.Native.Nat.{ℕ}
@@ -13,13 +13,12 @@ use Rattle.types.specs.declared.TType.{TType}
 use Rattle.types.specs.declared.TMessageType.{TMessageType}
 use Rattle.types.specs.declared.FieldId.{FieldId}
 use Rattle.types.specs.declared.SeqNo.{SeqNo}
-use Rattle.puts.specs.Wrong.{or_else}
 use Rattle.puts.proofs.Checks.{both_none}
 use Rattle.output.specs.State.{State, turn, in_turn, begun_here, headed, awaiting, entered, ended}
-use Rattle.output.specs.Calls.{Call, call, writes, leaves, begin_wrong, end_wrong, message_call, struct_begin_call, struct_end_call, field_call, stop_call, truth_call, bool_call, i8_call, int_call, double_call, uuid_call, bytes_call, string_call, items_call, pairs_call}
+use Rattle.output.specs.Calls.{Call, writes, leaves, begin_wrong, end_wrong, message_call, struct_begin_call, struct_end_call, field_call, stop_call, truth_call, bool_call, i8_call, int_call, double_call, uuid_call, bytes_call, string_call, items_call, pairs_call}
 use Rattle.output.specs.declared.AwaitedField.{AwaitedField}
 use Rattle.output.specs.declared.AwaitedField.TheVariants as A
-use Rattle.output.proofs.Checks.{Sound, begin_fits, end_fits}
+use Rattle.output.proofs.Checks.{Sound, begin_fits}
 use Rattle.output.proofs.Laws.{Follows, still_sound}
 
 -- what each call leaves of a state

@@ -1,10 +1,9 @@
 -- The picker over the reader's state: what the call knows at each return. Assumes nothing.
-use mathlib.Core.Path.{◌≡◌, refl, sym, ap, ap₂, ◌∙◌}
-use mathlib.Core.Bool.{Bool, true, false, cond, ◌&&◌}
+use mathlib.Core.Path.{◌≡◌, sym, ap, ◌∙◌}
+use mathlib.Core.Bool.{Bool, true, false, ◌&&◌}
 use mathlib.Core.List.{List}
-use Prim.Native.Nat.{ℕ, suc, ◌-◌, ◌*◌, ◌^◌, ◌≤◌, ◌<◌, min}
+use Prim.Native.Nat.{ℕ, suc, ◌-◌, ◌*◌, ◌≤◌, ◌<◌, min}
 use native.Mathlib.Omega.{arith}
-use borrow.Author.Rules.{sfits_of}
 use borrow.Author.Tests.{eq-eqb, ne_eqb, lt-ltb, le-ltb, le-leb, lt-leb, leb-true, eqb-true}
 use lib.Dec.{eqb, leb, ltb}
 use lib.IntN.{ℤ, pos}
@@ -12,17 +11,15 @@ use lib.ListN.{length, take}
 use Rattle.types.proofs.Limits.{both}
 use Rattle.types.specs.Refusals.{DEPTH, NO_ROOM, BAD_LIST}
 use Rattle.types.specs.declared.Place.{Place}
-use Rattle.types.specs.declared.TType.{TType}
 use Rattle.types.specs.declared.TType.TheVariants as T
-use Rattle.types.specs.declared.TConfiguration.{TConfiguration}
 use Rattle.types.specs.Value as val
 use Rattle.types.specs.Value.{Tree}
-use Rattle.numbers.specs.Varint.{Found, got, refused}
+use Rattle.numbers.specs.Varint.{got}
 use Rattle.heads.specs.Reader.{read_at, missing, missed}
 use Rattle.heads.proofs.Cut.{cut_is}
 use Rattle.input.proofs.Cases.{cut_inside, cut_counts}
 use Rattle.input.specs.State.{State, cut_of, gate, moved_to}
-use Rattle.input.specs.Outcome.{Said, says, refuses, Outcome, answers, declines, from, stays}
+use Rattle.input.specs.Outcome.{Outcome, answers, declines, from, stays}
 use Rattle.input.specs.Answers.{as_done}
 use Rattle.input.specs.declared.ReadDone.{ReadDone}
 use Rattle.skip.specs.Walk.{Entry, fields}

@@ -1,6 +1,6 @@
 -- The picker gives 19 only where the message's ceiling cuts the input off, and END only where it does not. Assumes nothing.
 use mathlib.Core.Path.{◌≡◌, refl, sym, ap, ◌∙◌}
-use mathlib.Core.Bool.{Bool, true, false, cond}
+use mathlib.Core.Bool.{Bool, true, false}
 use mathlib.Core.List.{List}
 use Prim.Native.Nat.{ℕ, ◌*◌, ◌≤◌}
 use native.Mathlib.Omega.{arith}
@@ -9,7 +9,7 @@ use lib.IntN.{ℤ}
 use lib.ListN.{length}
 use Rattle.types.specs.Refusals.{END, DEPTH, OUT_OF_TURN, NO_ROOM, BAD_STATE, BAD_LIST, MESSAGE_SIZE}
 use Rattle.types.specs.declared.TType.TheVariants as T
-use Rattle.input.specs.State.{State, cut_of, gate}
+use Rattle.input.specs.State.{State, cut_of}
 use Rattle.input.specs.Answers.{number_done}
 use Rattle.input.specs.declared.ReadDone.{ReadDone}
 use Rattle.input.proofs.Gate.{Gated, bad, turn, through, gated}

@@ -1,25 +1,21 @@
 -- The laws of every call, for the picker; that it accepts, refuses and moves as skip of Struct does; that a refusal leaves the rows; and that
 -- the bytes behind the struct have no say in them. Assumes nothing.
-use mathlib.Core.Path.{◌≡◌, refl, sym, ap, ap₂, subst, ◌∙◌}
-use mathlib.Core.Bool.{Bool, true, false, cond, ◌&&◌, not}
-use mathlib.Core.List.{List, ◌++◌}
-use Prim.Native.Nat.{ℕ, suc, ◌+◌, ◌-◌, ◌*◌, ◌≤◌, ◌<◌, min}
+use mathlib.Core.Path.{◌≡◌, refl, sym, ap, ◌∙◌}
+use mathlib.Core.Bool.{Bool, true, false, cond}
+use mathlib.Core.List.{List}
+use Prim.Native.Nat.{ℕ, suc, ◌*◌, ◌≤◌, ◌<◌, min}
 use native.Mathlib.Omega.{arith}
-use borrow.Author.Tests.{eq-eqb, ne_eqb, ltb-true, ltb-false, leb-true, leb-false}
+use borrow.Author.Tests.{ne_eqb, ltb-true, ltb-false}
 use lib.Dec.{eqb, leb, ltb}
-use lib.IntN.{ℤ, pos}
-use lib.ListN.{length, take, drop, length-drop}
+use lib.IntN.{ℤ}
+use lib.ListN.{length, take}
 use Rattle.types.specs.Refusals.{DEPTH, OUT_OF_TURN, NO_ROOM, BAD_STATE, BAD_LIST}
 use Rattle.types.specs.Codes.{type_code}
-use Rattle.types.specs.declared.Place.{Place}
-use Rattle.types.specs.declared.TType.{TType}
 use Rattle.types.specs.declared.TType.TheVariants as T
-use Rattle.types.specs.Value as val
 use Rattle.types.specs.Value.{Tree}
-use Rattle.numbers.specs.Varint.{Found, got, refused, placed}
-use Rattle.heads.specs.Reader.{read_at, refuse, missing}
-use Rattle.input.specs.State.{State, cut_of, sound, waits, gate, moved_to}
-use Rattle.input.specs.Outcome.{Said, says, refuses, Outcome, answers, declines, guarded, from, stays}
+use Rattle.heads.specs.Reader.{missing}
+use Rattle.input.specs.State.{State, cut_of, sound, waits, gate}
+use Rattle.input.specs.Outcome.{Said, says, refuses, Outcome, declines, guarded}
 use Rattle.input.specs.Answers.{as_done, number_done}
 use Rattle.input.specs.declared.Awaited.{Awaited}
 use Rattle.input.specs.declared.Awaited.TheVariants as W
@@ -27,7 +23,7 @@ use Rattle.input.specs.declared.ReadDone.{ReadDone}
 use Rattle.input.proofs.Refusals.{Shown, shown, can_give, plain_given}
 use Rattle.input.proofs.Gate.{Gated, bad, turn, through, gated}
 use Rattle.input.proofs.Laws.{any, CallLaws, not_true}
-use Rattle.skip.specs.Walk.{Entry, fields}
+use Rattle.skip.specs.Walk.{Entry}
 use Rattle.skip.specs.Value.{value_of}
 use Rattle.skip.specs.Skip.{skip_of, skip_to, over, room_of, awaited, skips, skip_call}
 use Rattle.skip.specs.declared.Skipped.{Skipped}
@@ -36,7 +32,7 @@ use Rattle.skip.proofs.Past.{past_refuse}
 use Rattle.skip.proofs.Laws.{late, skip_laws}
 use Rattle.wanted.specs.Wanted.{listed}
 use Rattle.picker.specs.Pick.{on_struct, picks, forgets, pick_call, written, picked_rows}
-use Rattle.picker.proofs.Call.{struct_no, struct_yes, goes_on}
+use Rattle.picker.proofs.Call.{struct_no, struct_yes}
 use Rattle.skip.proofs.Call.{nothing_waits}
 use Rattle.skip.proofs.Cut.{of_cut, skip_cut}
 

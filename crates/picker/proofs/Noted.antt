@@ -1,10 +1,10 @@
 -- The walk that notes a struct's own fields: what is left to note, over what is noted, makes what the whole makes. Assumes nothing.
 use mathlib.Core.Path.{◌≡◌, refl, sym, ap, ap₂, ◌∙◌}
-use mathlib.Core.Bool.{Bool, true, false, cond}
-use mathlib.Core.List.{List, [], ◌∷◌}
-use Prim.Native.Nat.{ℕ, ◌+◌, ◌-◌, ◌≤◌, ◌<◌}
+use mathlib.Core.Bool.{Bool, cond}
+use mathlib.Core.List.{List}
+use Prim.Native.Nat.{ℕ, ◌+◌, ◌-◌, ◌<◌}
 use native.Mathlib.Omega.{arith}
-use lib.IntN.{ℤ, pos}
+use lib.IntN.{ℤ}
 use lib.ListN.{length}
 use Rattle.types.specs.Codes.{type_code}
 use Rattle.types.specs.declared.Place.{Place}
@@ -13,10 +13,10 @@ use Rattle.types.specs.declared.TType.{TType}
 use Rattle.types.specs.declared.TConfiguration.{TConfiguration}
 use Rattle.types.specs.Value as val
 use Rattle.types.specs.Value.{Tree, type_of}
-use Rattle.numbers.specs.Varint.{Found, got, refused}
+use Rattle.numbers.specs.Varint.{got}
 use Rattle.heads.specs.Reader.{read_at}
-use Rattle.heads.specs.Heads.{Field, stop, bool, value, field}
-use Rattle.heads.specs.Answers.{place, id_of, field_at}
+use Rattle.heads.specs.Heads.{stop, bool, value, field}
+use Rattle.heads.specs.Answers.{field_at}
 use Rattle.heads.specs.declared.FieldHead.{FieldHead}
 use Rattle.heads.specs.declared.FieldHead.TheVariants as F
 use Rattle.skip.specs.Walk.{Entry, fields}
@@ -25,8 +25,8 @@ use Rattle.skip.specs.Skip.{skip_of}
 use Rattle.skip.specs.declared.Skipped.{Skipped}
 use Rattle.skip.specs.declared.Skipped.TheVariants.{Done, Refused}
 use Rattle.skip.proofs.Past.{read_past, refused_past}
-use Rattle.skip.proofs.Cycle.{head_later, head_read, head_refused, bool_less, value_less}
-use Rattle.picker.specs.Pick.{Row, kind_alone, row_of}
+use Rattle.skip.proofs.Cycle.{head_read, head_refused}
+use Rattle.picker.specs.Pick.{Row, row_of}
 use Rattle.picker.specs.Notes.{note, note_all}
 use Rattle.picker.proofs.Cases.{row, note_length}
 use Rattle.picker.proofs.Walk.{entry, read_type, value_code, sized_at_lem, headless, none_left, Behind, bool_next, value_next, valueless}

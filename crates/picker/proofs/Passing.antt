@@ -3,11 +3,10 @@ use mathlib.Core.Path.{◌≡◌, refl, sym, ap, ap₂, ◌∙◌}
 use mathlib.Core.Bool.{Bool, true, false, cond}
 use mathlib.Core.Logic.{◌⊎◌, inl, inr}
 use mathlib.Core.List.{List, [], ◌∷◌}
-use Prim.Native.Nat.{ℕ, zero, suc, ◌+◌, ◌-◌, ◌^◌, ◌≤◌, ◌<◌}
+use Prim.Native.Nat.{ℕ, zero, suc, ◌+◌, ◌^◌, ◌≤◌, ◌<◌}
 use native.Mathlib.Omega.{arith}
 use borrow.Author.Rules.{sfits_of}
-use borrow.Author.Tests.{ltb-true, ltb-false, leb-true, leb-false, lt-ltb, le-ltb, le-leb, lt-leb}
-use lib.Dec.{ltb, leb}
+use borrow.Author.Tests.{ltb-true, ltb-false, leb-true, le-ltb, le-leb}
 use lib.IntN.{ℤ, pos, negsuc}
 use lib.Signed.{lt_z, le_z, mag}
 use lib.ListN.{length, get_or, drop, drop_of_length-le}
@@ -23,7 +22,7 @@ use Rattle.types.specs.Value as val
 use Rattle.types.specs.Value.{Tree, type_of}
 use Rattle.numbers.specs.Varint.{got}
 use Rattle.heads.specs.Reader.{read_at}
-use Rattle.heads.specs.Heads.{Field, bool, value, field}
+use Rattle.heads.specs.Heads.{bool, value, field}
 use Rattle.heads.specs.Answers.{field_at}
 use Rattle.heads.specs.declared.FieldHead.{FieldHead}
 use Rattle.heads.specs.declared.FieldHead.TheVariants as F
@@ -36,7 +35,7 @@ use Rattle.skip.specs.declared.Skipped.TheVariants.{Done, Refused}
 use Rattle.skip.proofs.Struct.{run_less}
 use Rattle.wanted.specs.Wanted.{same_id}
 use Rattle.wanted.proofs.Cases.{next, held, is_same}
-use Rattle.picker.specs.Pick.{Row, row_of}
+use Rattle.picker.specs.Pick.{Row}
 use Rattle.picker.specs.Notes.{note_row, note, note_all, nearer_of, least_past}
 use Rattle.picker.proofs.Walk.{entry, sized_at_lem, Behind, bool_next, value_next}
 use Rattle.picker.proofs.Cases.{row}

@@ -3,16 +3,15 @@
 use mathlib.Core.Path.{◌≡◌, refl}
 use mathlib.Core.List.{List, [], ◌∷◌}
 use Prim.Native.Nat.{ℕ}
-use lib.IntN.{ℤ, pos, negsuc}
-use Rattle.types.specs.Refusals.{END, DEPTH, NO_ROOM, BAD_LIST}
+use lib.IntN.{ℤ, pos}
+use Rattle.types.specs.Refusals.{END, NO_ROOM, BAD_LIST}
 use Rattle.types.specs.Codes.{type_code, type_by_number, element_type, field_type}
 use Rattle.types.specs.Limits.{in_range, defaults}
 use Rattle.types.specs.Value.{type_of}
 use Rattle.heads.specs.Reader.{done, refuse, and_then, provided, byte, some, read_at, read_to, ahead, backed}
 use Rattle.heads.specs.Heads.{int8, number32, number64, int16, int32, int64, double, uuid, truth, binary, counted, listed, items, mapped, pairs, items_head, pairs_head, field_id, field}
-use Rattle.heads.specs.Answers.{place}
 use Rattle.heads.proofs.Samples.{struct_frame}
-use Rattle.input.specs.State.{State, fresh, sound, gate, moved_to}
+use Rattle.input.specs.State.{State, fresh, sound, gate}
 use Rattle.input.specs.Outcome.{declines}
 use Rattle.input.specs.Answers.{as_done}
 use Rattle.skip.specs.Walk.{sizing, walk, fields}

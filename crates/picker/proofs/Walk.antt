@@ -1,19 +1,15 @@
 -- The walk over a struct's own fields, a step at a time, with what stands in each. Assumes nothing.
 use mathlib.Core.Path.{◌≡◌, refl, sym, ap, ap₂, ◌∙◌}
-use mathlib.Core.Bool.{Bool, true, false, cond}
+use mathlib.Core.Bool.{Bool, true, false}
 use mathlib.Core.List.{List, [], ◌∷◌}
-use Prim.Native.Nat.{ℕ, zero, suc, ◌+◌, ◌-◌, ◌/◌, ◌%◌, ◌≤◌, ◌<◌}
+use Prim.Native.Nat.{ℕ, ◌-◌, ◌/◌, ◌%◌, ◌≤◌, ◌<◌}
 use native.Mathlib.Omega.{arith}
-use borrow.Author.Tests.{eqb-true, eqb-false}
+use borrow.Author.Tests.{eqb-false}
 use lib.Dec.{eqb}
-use lib.IntN.{ℤ, pos}
-use lib.ListN.{length, drop}
-use lib.Seq.{slice}
+use lib.IntN.{ℤ}
+use lib.ListN.{drop}
 use Rattle.types.specs.Codes.{type_code, type_by_number, as_field, field_type}
-use Rattle.types.specs.declared.Place.{Place}
-use Rattle.types.specs.declared.FieldId.{FieldId}
 use Rattle.types.specs.declared.TType.{TType}
-use Rattle.types.specs.declared.TType.TheVariants as T
 use Rattle.types.specs.declared.TypeRead.{TypeRead}
 use Rattle.types.specs.declared.TypeRead.TheVariants as R
 use Rattle.types.specs.declared.FieldType.{FieldType}
@@ -23,11 +19,11 @@ use Rattle.types.specs.Value as val
 use Rattle.types.specs.Value.{Tree, Trees, Pairs, Fields, type_of}
 use Rattle.types.proofs.Codes.{number_is}
 use Rattle.numbers.specs.Varint.{Found, got, refused, placed}
-use Rattle.heads.specs.Reader.{Reader, done, refuse, and_then, byte, read_at}
+use Rattle.heads.specs.Reader.{Reader, done, and_then, byte, read_at}
 use Rattle.heads.specs.Heads.{Field, stop, bool, value, field_id, of_type, field}
 use Rattle.heads.specs.Spells.{Spells}
 use Rattle.heads.proofs.Lawful.{not_both}
-use Rattle.heads.proofs.Steps.{found_at, lost_at, step, stop_at, done_at, refuse_at, split}
+use Rattle.heads.proofs.Steps.{found_at, step, stop_at, done_at, refuse_at, split}
 use Rattle.skip.specs.Walk.{Entry, with_size, sizing, behind, fields}
 use Rattle.skip.specs.Value.{value_of}
 use Rattle.skip.proofs.Walks.{fields_step}

@@ -1,18 +1,15 @@
 -- A picker's call that is answered: what it passed and what it read; that the bytes behind have no say; and that each of the struct's own fields is the
 -- tree's, with its value at the place that is told. Assumes nothing.
-use mathlib.Core.Path.{◌≡◌, refl, sym, ap, ap₂, subst, ◌∙◌}
-use mathlib.Core.Bool.{Bool, true, false, cond}
+use mathlib.Core.Path.{◌≡◌, refl, sym, ap, subst, ◌∙◌}
+use mathlib.Core.Bool.{Bool, true, false}
 use mathlib.Core.Logic.{◌⊎◌, inl, inr}
 use mathlib.Core.List.{List, [], ◌∷◌}
 use Prim.Native.Nat.{ℕ, suc, ◌+◌, ◌-◌, ◌*◌, ◌≤◌, ◌<◌}
 use native.Mathlib.Omega.{arith}
-use borrow.Author.Tests.{eq-eqb, eqb-true, lt-ltb, ltb-true, le-leb, leb-true}
-use lib.Dec.{eqb, leb, ltb}
+use borrow.Author.Tests.{lt-ltb, ltb-true, le-leb, leb-true}
+use lib.Dec.{leb, ltb}
 use lib.IntN.{ℤ, pos}
 use lib.ListN.{length, take, drop, length-drop}
-use lib.Seq.{slice}
-use Rattle.types.specs.Refusals.{DEPTH, NO_ROOM, BAD_LIST}
-use Rattle.types.specs.declared.Place.{Place}
 use Rattle.types.specs.declared.TType.{TType}
 use Rattle.types.specs.declared.TType.TheVariants as T
 use Rattle.types.specs.declared.TConfiguration.{TConfiguration}
@@ -20,16 +17,16 @@ use Rattle.types.specs.Value as val
 use Rattle.types.specs.Value.{Tree, type_of}
 use Rattle.numbers.specs.Varint.{Found, got, refused, placed}
 use Rattle.numbers.proofs.Found.{as_long, same_part}
-use Rattle.heads.specs.Reader.{Reader, done, and_then, read_at, read_to}
+use Rattle.heads.specs.Reader.{Reader, done, read_at, read_to}
 use Rattle.heads.proofs.Ahead.{lawful_fair}
 use Rattle.heads.proofs.Cut.{was_cut, cut_whole, whole_cut}
 use Rattle.heads.specs.Heads.{Field, stop, bool, value, field}
 use Rattle.heads.specs.Answers.{place}
 use Rattle.heads.specs.Spells.{Formed}
-use Rattle.heads.proofs.Lawful.{Lawful, same, not_both}
+use Rattle.heads.proofs.Lawful.{Lawful, same}
 use Rattle.heads.proofs.Steps.{found_at, step, done_at}
 use Rattle.input.specs.State.{State, cut_of, sound, waits, gate, moved_to}
-use Rattle.input.specs.Outcome.{Said, says, refuses, Outcome, answers, declines, from, stays}
+use Rattle.input.specs.Outcome.{Said, says, refuses, Outcome, answers, from, stays}
 use Rattle.input.specs.Answers.{as_done}
 use Rattle.input.specs.declared.DoneAnswer.TheVariants as N
 use Rattle.input.proofs.Gate.{is_sound, sound_is, Gated, bad, turn, through, gated}

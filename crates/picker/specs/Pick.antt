@@ -1,6 +1,6 @@
 -- What the picker answers: for each wanted id the last field of that id and type among those directly in the struct. Assumes nothing: these are
 -- definitions.
-use Rattle.std.specs.Prelude.{ℕ, ◌+◌, ◌-◌, ◌*◌, Bool, true, false, cond, ◌&&◌, ◌||◌, List, [], ◌∷◌, ◌++◌, eqb, ltb, leb, length, drop, ℤ, pos}
+use Rattle.std.specs.Prelude.{ℕ, ◌+◌, ◌-◌, ◌*◌, Bool, false, cond, ◌&&◌, ◌||◌, List, [], ◌∷◌, ◌++◌, eqb, ltb, leb, length, drop, ℤ, pos}
 use Rattle.types.specs.Refusals.{DEPTH, NO_ROOM, BAD_LIST}
 use Rattle.types.specs.Codes.{type_code}
 use Rattle.types.specs.Value as val

@@ -1,21 +1,20 @@
 -- How many bytes the numbers that the writer writes can take: "a 16-bit zigzag number needs at most 3 bytes, a 32-bit one 5 and a 64-bit one 10", so that no array of 3, 5 or
 -- 10 bytes could be too small, and each bound is met. Assumes nothing.
-use mathlib.Core.Path.{◌≡◌, refl, sym, ap, subst, ◌∙◌}
+use mathlib.Core.Path.{◌≡◌, refl}
 use mathlib.Core.Bool.{Bool, true, false, cond}
 use mathlib.Core.List.{List, [], ◌∷◌, ◌++◌}
-use Prim.Native.Nat.{ℕ, suc, ◌+◌, ◌*◌, ◌^◌, ◌≤◌, ◌<◌}
+use Prim.Native.Nat.{ℕ, ◌+◌, ◌*◌, ◌^◌, ◌≤◌, ◌<◌}
 use native.Mathlib.Omega.{arith}
 use lib.Dec.{eqb, ltb}
 use lib.ListN.{length, length-append}
-use lib.IntN.{ℤ, pos, negsuc}
+use lib.IntN.{ℤ, negsuc}
 use mir.Syntax.{w16, w32, w64}
-use mir.Val.{SFits, Fits, of_z}
+use mir.Val.{SFits, of_z}
 use mir.Facts.{Fits-of_z}
-use Rattle.types.specs.Codes.{type_code, message_code}
+use Rattle.types.specs.Codes.{type_code}
 use Rattle.types.specs.declared.TType.{TType}
 use Rattle.types.specs.declared.TMessageType.{TMessageType}
 use Rattle.numbers.specs.Varint.{fewest}
-use Rattle.zigzag.specs.Zigzag.{zigzag}
 use Rattle.numbers.proofs.Fewest.{at_most, signed16_most, signed32_most, signed64_most}
 use Rattle.puts.specs.Bytes.{int_bytes, short_delta, field_bytes, items_bytes, pairs_bytes, string_bytes, message_bytes}
 

@@ -1,10 +1,10 @@
 -- Every 64-bit pattern comes back from its scalar. A NaN's is kept whole; any other is `to_bits` of what `of_bits` reads.
 -- Assumes nothing.
-use mathlib.Core.Path.{◌≡◌, refl, sym, ap, subst, ◌∙◌}
+use mathlib.Core.Path.{◌≡◌, refl, sym, subst, ◌∙◌}
 use mathlib.Core.Bool.{Bool, true, false, not}
 use Prim.Native.Nat.{ℕ, ◌<◌, ◌^◌}
 use lib.Dec.{T}
-use lib.Ieee.{binary64, nan_bits, is_nan, of_bits, to_bits}
+use lib.Ieee.{binary64, nan_bits, of_bits}
 use lib.Ieee.Bits.{to_bits-of_bits, nan_bits_is}
 use Rattle.scalars.specs.declared.Scalar.TheVariants.{Double, NotANumber}
 use Rattle.scalars.specs.Scalars.{pick_scalar, scalar_of, bits_of}

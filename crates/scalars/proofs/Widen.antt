@@ -1,5 +1,5 @@
 -- A signed number cast to 64 bits keeps its value, so the cast fits. Assumes nothing.
-use mathlib.Core.Path.{◌≡◌, sym, ap, subst, ◌∙◌}
+use mathlib.Core.Path.{◌≡◌, sym, subst, ◌∙◌}
 use lib.IntN.{ℤ}
 use lib.Dec.{T, leb}
 use mir.Syntax.{Width, w8, w16, w32, w64}

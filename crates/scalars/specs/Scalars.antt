@@ -1,6 +1,6 @@
 -- Which scalar 64 bits are, and which bits a scalar has: "Double: 8 bytes, little-endian, any bits kept"; "a value being a truth, a signed number or a
 -- double". Assumes nothing: these are definitions.
-use Rattle.std.specs.Prelude.{ℕ, Bool, true, false, cond, Float}
+use Rattle.std.specs.Prelude.{ℕ, Bool, true, false, cond}
 use Rattle.std.specs.Float.{binary64}
 use Rattle.std.specs.Float.Ieee.{nan_bits, of_bits, to_bits}
 use Rattle.scalars.specs.declared.Scalar.{Scalar}

@@ -1,24 +1,23 @@
 -- Skip over the reader's state: what the call knows at each return, and that it succeeds exactly on a well-formed value. Assumes nothing.
 use mathlib.Core.Path.{◌≡◌, refl, sym, ap, ◌∙◌}
 use mathlib.Core.Logic.{◌↔◌}
-use mathlib.Core.Bool.{Bool, true, false, cond, ◌&&◌}
+use mathlib.Core.Bool.{Bool, true, false, cond}
 use mathlib.Core.List.{List}
-use Prim.Native.Nat.{ℕ, ◌-◌, ◌≤◌, min}
+use Prim.Native.Nat.{ℕ, ◌≤◌, min}
 use native.Mathlib.Omega.{arith}
 use borrow.Author.Rules.{sfits_of}
-use borrow.Author.Tests.{eq-eqb, ne_eqb, leb-true}
+use borrow.Author.Tests.{eq-eqb, ne_eqb}
 use lib.ListN.{length, take}
-use lib.Dec.{eqb, ltb, leb}
+use lib.Dec.{eqb, ltb}
 use mir.Facts.{to_z-of_z}
 use Rattle.types.specs.Refusals.{OUT_OF_TURN, BAD_STATE}
 use Rattle.types.specs.Codes.{type_code}
-use Rattle.types.specs.Limits.{in_range}
 use Rattle.types.specs.declared.Place.{Place}
 use Rattle.types.specs.declared.TType.{TType}
 use Rattle.heads.specs.Answers.{place}
 use Rattle.heads.specs.Spells.{Formed}
 use Rattle.input.specs.State.{State, sound, cut_of, waits, moved_to, with_pending}
-use Rattle.input.specs.Outcome.{Outcome, answers, declines}
+use Rattle.input.specs.Outcome.{answers, declines}
 use Rattle.input.specs.Answers.{as_done}
 use Rattle.input.specs.declared.Awaited.{Awaited}
 use Rattle.input.specs.declared.Awaited.TheVariants as W

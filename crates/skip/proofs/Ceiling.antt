@@ -2,7 +2,7 @@
 use mathlib.Core.Path.{◌≡◌, refl, sym, ap, ◌∙◌}
 use mathlib.Core.Bool.{Bool, true, false, cond}
 use mathlib.Core.List.{List}
-use Prim.Native.Nat.{ℕ, ◌≤◌, ◌<◌}
+use Prim.Native.Nat.{ℕ, ◌<◌}
 use native.Mathlib.Omega.{arith}
 use lib.Dec.{eqb}
 use lib.ListN.{length}
@@ -57,7 +57,7 @@ pub skip_ceiling : (kind : TType) → Ceiling cut_of (λ s st. skip_call s st ki
 unfolding skip_call
 skip_ceiling kind =
     record {
-      at-end =
+      at_end =
           λ s st z. missed_end (value_of st.limits (room_of st) kind) (value_told_lem st.limits (room_of st) kind) s (cut_of st) st.place.0 END
           (from_bytes kind s st END (λ e. omega arith) (λ e. omega arith) (omega arith) (sym (num_done (skips kind s st).said) ∙ z)) refl;
       at_cut =

@@ -1,11 +1,10 @@
 -- Bytes that spell a value are read as it, whatever stands behind them. Assumes nothing.
 use mathlib.Core.Path.{◌≡◌, refl, sym, ap, ap₂, subst, ◌∙◌}
-use mathlib.Core.Bool.{Bool, true, false}
-use mathlib.Core.Logic.{◌⊎◌, inl, inr, ⊎_elim}
+use mathlib.Core.Bool.{Bool, true}
+use mathlib.Core.Logic.{⊎_elim}
 use mathlib.Core.List.{List, [], ◌∷◌, ◌++◌, append_assoc}
-use Prim.Native.Nat.{ℕ, zero, suc, ◌+◌, ◌-◌, ◌*◌, ◌≤◌, ◌<◌}
+use Prim.Native.Nat.{ℕ, suc, ◌+◌, ◌-◌, ◌*◌, ◌≤◌, ◌<◌}
 use native.Mathlib.Nat.{add-zero}
-use native.Mathlib.Numerals.{sub-one}
 use native.Mathlib.Omega.{arith}
 use borrow.Author.Tests.{lt-ltb, ne_eqb}
 use lib.ListN.{length, drop, length-append}
@@ -19,15 +18,15 @@ use Rattle.types.specs.declared.TConfiguration.{TConfiguration}
 use Rattle.types.specs.Value as val
 use Rattle.types.specs.Value.{Tree, Trees, no_trees, tree, Pairs, no_pairs, pair, Fields, no_fields, type_of, size, size_p}
 use Rattle.types.proofs.Value.{no_stop}
-use Rattle.numbers.specs.Varint.{Found, got, refused, placed}
-use Rattle.heads.specs.Reader.{Reader, done, refuse, and_then, provided, Whole}
+use Rattle.numbers.specs.Varint.{Found, got}
+use Rattle.heads.specs.Reader.{Reader, done, and_then, provided, Whole}
 use Rattle.heads.specs.Heads.{int8, int16, int32, int64, double, uuid, truth, binary, items, pairs, least_size, items_head, pairs_head, Field, stop, bool, value, field}
 use Rattle.heads.specs.Spells.{Spells, SpellsAll, SpellsPairs, SpellsFields}
 use Rattle.heads.proofs.Lawful.{Lawful, then_got, whole_front}
 use Rattle.heads.proofs.Ahead.{items_head_lem, pairs_head_lem}
 use Rattle.heads.proofs.Readers.{int8_lawful, int16_lawful, int32_lawful, int64_lawful, double_lawful, uuid_lawful, truth_lawful, binary_lawful, items_lawful, pairs_lawful, field_lawful}
-use Rattle.skip.specs.Walk.{Entry, with_size, sizing, behind, fields}
-use Rattle.skip.specs.Value.{many, many_pairs, fields_of, startable, Boxes, roomy, shaped, value_of}
+use Rattle.skip.specs.Walk.{Entry, with_size, sizing, fields}
+use Rattle.skip.specs.Value.{many, many_pairs, fields_of, startable, roomy, shaped, value_of}
 use Rattle.skip.proofs.Least.{all_least, pairs_least}
 use Rattle.skip.proofs.Walks.{fields_step}
 use Rattle.skip.specs.Leaves.{is_leaf}

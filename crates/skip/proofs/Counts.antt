@@ -1,7 +1,7 @@
 -- Holding a header's count against the bytes left changes refusals only: skip accepts what it would accept without, with the same end. Assumes nothing.
-use mathlib.Core.Path.{◌≡◌, refl, sym, ap, ◌∙◌}
-use mathlib.Core.Logic.{◌⊎◌, inl, inr, ⊎_elim, ◌↔◌}
-use mathlib.Core.List.{List, ◌++◌}
+use mathlib.Core.Path.{◌≡◌, sym, ap, ◌∙◌}
+use mathlib.Core.Logic.{◌⊎◌, ⊎_elim, ◌↔◌}
+use mathlib.Core.List.{List}
 use Prim.Native.Nat.{ℕ, zero, suc}
 use lib.ListN.{length, take, drop, take-append-drop}
 use Rattle.types.specs.Refusals.{END}
@@ -9,7 +9,7 @@ use Rattle.types.specs.declared.Place.{Place}
 use Rattle.types.specs.declared.TType.{TType}
 use Rattle.types.specs.declared.TConfiguration.{TConfiguration}
 use Rattle.types.specs.Value.{Tree}
-use Rattle.numbers.specs.Varint.{Found, got, refused, placed}
+use Rattle.numbers.specs.Varint.{got, placed}
 use Rattle.heads.specs.Reader.{Reader, read_at}
 use Rattle.heads.specs.Heads.{items, pairs, items_head, pairs_head}
 use Rattle.heads.proofs.Lawful.{not_both}
@@ -20,7 +20,7 @@ use Rattle.skip.specs.Skip.{past, skip_of}
 use Rattle.skip.specs.declared.Skipped.TheVariants.{Done, Refused}
 use Rattle.skip.proofs.Past.{read_past, past_got}
 use Rattle.skip.proofs.Unless.{Less, alike, boxed_less, shaped_less, same_past}
-use Rattle.skip.proofs.Sound.{Good, Headed, shut_good, boxed_good, shaped_good}
+use Rattle.skip.proofs.Sound.{Good, shut_good, boxed_good, shaped_good}
 use Rattle.skip.proofs.Complete.{complete}
 
 module _ (lim : TConfiguration) where

@@ -1,14 +1,11 @@
 -- Skip up to a cut: it succeeds exactly on a well-formed value that ends no later than the cut. Assumes nothing.
-use mathlib.Core.Path.{◌≡◌, refl, sym, ap, subst, ◌∙◌}
+use mathlib.Core.Path.{◌≡◌, refl, sym, ap, ◌∙◌}
 use mathlib.Core.Bool.{Bool}
 use mathlib.Core.List.{List}
 use mathlib.Core.Logic.{◌↔◌}
-use Prim.Native.Nat.{ℕ, ◌≤◌, ◌<◌, min}
-use native.Mathlib.Omega.{arith}
+use Prim.Native.Nat.{ℕ, ◌≤◌, min}
 use lib.Dec.{ltb}
-use lib.ListN.{length, take, length-take}
-use lib.Seq.{take-take}
-use Rattle.types.specs.declared.Place.{Place}
+use lib.ListN.{length, take}
 use Rattle.types.specs.declared.TType.{TType}
 use Rattle.types.specs.declared.TConfiguration.{TConfiguration}
 use Rattle.numbers.specs.Varint.{Found, got, refused}
@@ -16,7 +13,7 @@ use Rattle.heads.specs.Reader.{read_at, missing, missed, read_to}
 use Rattle.heads.specs.Answers.{place}
 use Rattle.heads.specs.Spells.{Formed}
 use Rattle.heads.proofs.Ahead.{lawful_fair}
-use Rattle.heads.proofs.Cut.{cut_is, missed_got, missed_no, Cut, was_cut, cut_whole, whole_cut}
+use Rattle.heads.proofs.Cut.{cut_is, was_cut, cut_whole, whole_cut}
 use Rattle.input.proofs.Refusals.{Shown}
 use Rattle.input.proofs.Laws.{cut_told}
 use Rattle.skip.specs.Value.{value_of}
@@ -26,7 +23,7 @@ use Rattle.skip.specs.declared.Skipped.TheVariants.{Done, Refused}
 use Rattle.skip.proofs.Past.{was_read, was_refused, past_got, read_past}
 use Rattle.skip.proofs.Lawfuls.{value_lawful}
 use Rattle.skip.proofs.Told.{value_told_lem}
-use Rattle.skip.proofs.Theorems.{skip_formed, formed_skip, skip_later, skip_behind}
+use Rattle.skip.proofs.Theorems.{skip_formed, formed_skip}
 
 -- a skip of the bytes before the cut, as the code makes it
 abbrev pub of_cut : Bool → Skipped → Skipped

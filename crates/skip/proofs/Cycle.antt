@@ -1,10 +1,8 @@
 -- Skip of the values that hold others: what the code knows at each return and at each turn of its loops. Assumes nothing.
 use mathlib.Core.Path.{◌≡◌, refl, sym, ap, ap₂, ◌∙◌}
 use mathlib.Core.Bool.{Bool, true, false}
-use mathlib.Core.List.{List, [], ◌∷◌}
-use Prim.Native.Nat.{ℕ, zero, suc, ◌+◌, ◌-◌, ◌≤◌, ◌<◌}
-use native.Mathlib.Nat.{not-suc-le-zero}
-use native.Mathlib.Numerals.{sub-one}
+use mathlib.Core.List.{List, []}
+use Prim.Native.Nat.{ℕ, suc, ◌-◌, ◌≤◌, ◌<◌}
 use native.Mathlib.Omega.{arith}
 use borrow.Author.Tests.{eq-eqb, ne_eqb}
 use lib.Dec.{ltb}
@@ -20,7 +18,7 @@ use Rattle.types.specs.declared.TConfiguration.{TConfiguration}
 use Rattle.types.specs.Value as val
 use Rattle.types.specs.Value.{Tree, Trees, Pairs}
 use Rattle.numbers.specs.Varint.{Found, got, refused, placed}
-use Rattle.heads.specs.Reader.{Reader, done, refuse, and_then, provided, read_at}
+use Rattle.heads.specs.Reader.{Reader, done, and_then, provided, read_at}
 use Rattle.heads.specs.Heads.{items_head, pairs_head, Field, stop, bool, value, field}
 use Rattle.heads.specs.Answers.{place, id_of, to_list, items_head_at, to_map, pairs_head_at, to_field, field_at}
 use Rattle.heads.specs.declared.ListHead.{ListHead}
@@ -29,19 +27,19 @@ use Rattle.heads.specs.declared.MapHead.{MapHead}
 use Rattle.heads.specs.declared.MapHead.TheVariants as M
 use Rattle.heads.specs.declared.FieldHead.{FieldHead}
 use Rattle.heads.specs.declared.FieldHead.TheVariants as F
-use Rattle.heads.proofs.Lawful.{Lawful, not_both}
+use Rattle.heads.proofs.Lawful.{Lawful}
 use Rattle.heads.proofs.Readers.{field_lawful, field_takes}
 use Rattle.heads.proofs.Steps.{found_at, lost_at}
 use Rattle.skip.specs.Walk.{Entry, with_size, sizing, behind, fields}
-use Rattle.skip.specs.Value.{many, many_pairs, fields_of, startable, Boxes, shut, roomy, shaped, value_of}
+use Rattle.skip.specs.Value.{many, many_pairs, startable, roomy, value_of}
 use Rattle.skip.specs.Skip.{passed, past, skip_of}
-use Rattle.skip.specs.Leaves.{is_leaf, stop_end}
+use Rattle.skip.specs.Leaves.{is_leaf}
 use Rattle.skip.specs.declared.Skipped.{Skipped}
 use Rattle.skip.specs.declared.Skipped.TheVariants.{Done, Refused}
-use Rattle.skip.proofs.Leaf.{flat, stop_there}
+use Rattle.skip.proofs.Leaf.{flat}
 use Rattle.skip.proofs.Walks.{fields_step}
 use Rattle.skip.proofs.Lawfuls.{value_lawful}
-use Rattle.skip.proofs.Past.{done_refused, read_past, refused_past, past_got, past_no, past_step, past_stop, past_made, past_yes, past_not, past_refuse, past_done, pos_suc}
+use Rattle.skip.proofs.Past.{read_past, refused_past, past_step, past_stop, past_made, past_yes, past_not, past_done, pos_suc}
 
 -- behind a list's header, whatever is made of the elements
 elements_same : (s : List ℕ) (lim : TConfiguration) (room : ℕ) (t : TType) (n e : ℕ) (ok : Bool) (g h : Trees → Tree) → past (provided ok BAD_TYPE (and_then (many (value_of lim room t) n) (λ ts. done (g ts)))) s e ≡ past (provided ok BAD_TYPE (and_then (many (value_of lim room t) n) (λ ts. done (h ts)))) s e

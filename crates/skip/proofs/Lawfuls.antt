@@ -1,8 +1,8 @@
 -- The reader of a whole value is lawful and takes at least a byte. Assumes nothing.
-use mathlib.Core.Path.{◌≡◌, refl, sym, ap, ap₂, ◌∙◌}
+use mathlib.Core.Path.{◌≡◌, sym, ap, ◌∙◌}
 use mathlib.Core.Bool.{Bool}
-use mathlib.Core.List.{List, [], ◌∷◌, ◌++◌}
-use Prim.Native.Nat.{ℕ, zero, suc, ◌+◌, ◌-◌, ◌≤◌, ◌<◌}
+use mathlib.Core.List.{List, [], ◌++◌}
+use Prim.Native.Nat.{ℕ, zero, suc, ◌≤◌}
 use native.Mathlib.Omega.{arith}
 use lib.ListN.{length, take, drop, length-drop, length-take, take-append-drop}
 use lib.IntN.{ℤ, pos}
@@ -12,8 +12,8 @@ use Rattle.types.specs.declared.TType.TheVariants as T
 use Rattle.types.specs.declared.TConfiguration.{TConfiguration}
 use Rattle.types.specs.Value as val
 use Rattle.types.specs.Value.{Tree}
-use Rattle.numbers.specs.Varint.{Found, got, refused}
-use Rattle.heads.specs.Reader.{Reader, done, refuse, and_then, provided}
+use Rattle.numbers.specs.Varint.{Found, got}
+use Rattle.heads.specs.Reader.{Reader, refuse, and_then}
 use Rattle.heads.specs.Heads.{Field, stop, bool, value, field}
 use Rattle.heads.proofs.Lawful.{Lawful, LawfulAt, Takes, not_both, done_lawful, then_lawful_at, lawful_at, at_lawful, then_takes}
 use Rattle.heads.proofs.Ahead.{items_head_takes, pairs_head_takes}

@@ -1,30 +1,22 @@
 -- The laws of every call, for skip: a refused skip hands back the state as given; the bytes behind the end have no say; the next place lies in
 -- the input; BAD STATE and OUT OF TURN are given exactly when the scope paper says. Assumes nothing.
-use mathlib.Core.Path.{◌≡◌, refl, sym, ap, ◌∙◌}
-use mathlib.Core.Bool.{Bool, true, false, cond, ◌&&◌, not}
+use mathlib.Core.Path.{◌≡◌, refl, ap, ◌∙◌}
+use mathlib.Core.Bool.{Bool, true, false, ◌&&◌, not}
 use mathlib.Core.List.{List}
-use Prim.Native.Nat.{ℕ, ◌-◌, ◌≤◌, ◌<◌}
+use Prim.Native.Nat.{ℕ, ◌≤◌}
 use native.Mathlib.Omega.{arith}
 use lib.ListN.{length, take}
 use lib.Dec.{eqb}
-use Rattle.types.specs.Refusals.{OUT_OF_TURN, BAD_STATE}
 use Rattle.types.specs.Codes.{type_code}
-use Rattle.types.specs.declared.Place.{Place}
 use Rattle.types.specs.declared.TType.{TType}
-use Rattle.numbers.specs.Varint.{Found, got, refused}
 use Rattle.numbers.proofs.Found.{as_long}
-use Rattle.heads.specs.Reader.{read_at}
-use Rattle.heads.specs.Answers.{place}
 use Rattle.input.specs.State.{State, sound, cut_of, waits, moved_to, with_pending}
-use Rattle.input.specs.Outcome.{Outcome, Said, says, refuses, answers, declines}
-use Rattle.input.specs.Answers.{to_done, as_done, number_done}
+use Rattle.input.specs.Answers.{as_done, number_done}
 use Rattle.input.specs.declared.Awaited.{Awaited}
 use Rattle.input.specs.declared.Awaited.TheVariants as W
-use Rattle.input.specs.declared.ReadDone.{ReadDone}
-use Rattle.input.proofs.Gate.{Sound, is_sound, sound_is}
-use Rattle.input.proofs.Laws.{CallLaws, any, Way, unsound, early, lost, well, number_of, laws}
-use Rattle.skip.specs.Value.{value_of}
-use Rattle.skip.specs.Skip.{past, skip_of, skip_to, over, room_of, awaited, skips, skip_call}
+use Rattle.input.proofs.Gate.{is_sound, sound_is}
+use Rattle.input.proofs.Laws.{CallLaws, any, Way, unsound, early, lost, well, laws}
+use Rattle.skip.specs.Skip.{skip_to, over, room_of, awaited, skips, skip_call}
 use Rattle.skip.specs.declared.Skipped.{Skipped}
 use Rattle.skip.specs.declared.Skipped.TheVariants.{Done, Refused}
 use Rattle.skip.proofs.Cut.{to_whole, from_whole, cut_shown}

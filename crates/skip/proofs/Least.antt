@@ -1,8 +1,8 @@
 -- Spelt bytes are no fewer than the least size of their type, so a well-formed container's elements are ahead of its header. Assumes nothing.
-use mathlib.Core.Path.{◌≡◌, refl, sym, ap, subst, ◌∙◌}
+use mathlib.Core.Path.{◌≡◌, refl, sym, ap, subst}
 use mathlib.Core.Bool.{Bool, true, false, cond}
-use mathlib.Core.List.{List, [], ◌∷◌, ◌++◌}
-use Prim.Native.Nat.{ℕ, suc, ◌+◌, ◌-◌, ◌*◌, ◌≤◌, ◌<◌}
+use mathlib.Core.List.{List}
+use Prim.Native.Nat.{ℕ, ◌+◌, ◌-◌, ◌*◌, ◌≤◌}
 use native.Mathlib.Nat.{suc-mul, zero-mul}
 use native.Mathlib.Omega.{arith}
 use lib.ListN.{length, take, length-append}
@@ -14,11 +14,11 @@ use Rattle.types.specs.declared.TType.TheVariants as T
 use Rattle.types.specs.declared.TConfiguration.{TConfiguration}
 use Rattle.types.specs.Value as val
 use Rattle.types.specs.Value.{Tree, Trees, no_trees, tree, Pairs, no_pairs, pair, Fields, no_fields, size, size_p}
-use Rattle.numbers.specs.Varint.{Found, got, refused}
-use Rattle.heads.specs.Reader.{Reader, some, Whole}
-use Rattle.heads.specs.Heads.{int8, int16, int32, int64, double, uuid, truth, binary, items, pairs, least_size, stop, field}
+use Rattle.numbers.specs.Varint.{got, refused}
+use Rattle.heads.specs.Reader.{some}
+use Rattle.heads.specs.Heads.{double, uuid, least_size, stop}
 use Rattle.heads.specs.Spells.{Spells, SpellsAll, SpellsPairs, SpellsFields}
-use Rattle.heads.proofs.Lawful.{Takes, not_both}
+use Rattle.heads.proofs.Lawful.{not_both}
 use Rattle.heads.proofs.Readers.{int8_takes, int16_takes, int32_takes, int64_takes, truth_takes, binary_takes, items_takes, pairs_takes, field_takes}
 use Rattle.skip.proofs.Sound.{unmade}
 

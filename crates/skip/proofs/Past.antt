@@ -5,7 +5,7 @@ use mathlib.Core.List.{List}
 use Prim.Native.Nat.{ℕ, suc, ◌-◌, ◌<◌}
 use native.Mathlib.Omega.{arith}
 use Rattle.types.specs.declared.Place.{Place}
-use Rattle.numbers.specs.Varint.{Found, got, refused, placed}
+use Rattle.numbers.specs.Varint.{Found, got, refused}
 use Rattle.heads.specs.Reader.{Reader, done, refuse, and_then, provided, read_at}
 use Rattle.heads.specs.Answers.{place}
 use Rattle.heads.proofs.Steps.{step, stop_at, done_at, refuse_at, provided_yes, provided_no}

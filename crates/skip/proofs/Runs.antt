@@ -2,11 +2,11 @@
 use mathlib.Core.Path.{◌≡◌, refl, sym, ap, ◌∙◌}
 use mathlib.Core.Bool.{Bool, true, false, cond}
 use mathlib.Core.List.{List}
-use Prim.Native.Nat.{ℕ, zero, suc, ◌+◌, ◌-◌, ◌*◌, ◌≤◌, ◌<◌}
+use Prim.Native.Nat.{ℕ, zero, suc, ◌-◌, ◌*◌, ◌≤◌, ◌<◌}
 use native.Mathlib.Omega.{arith}
 use native.Mathlib.Nat.{mul-one, zero-mul, suc-mul}
 use borrow.Author.Tests.{le-leb, lt-leb, eq-eqb, ne_eqb}
-use lib.Dec.{leb, eqb}
+use lib.Dec.{leb}
 use lib.ListN.{length, take, drop, length-drop}
 use Rattle.types.specs.Refusals.{END, BAD_TYPE, DEPTH}
 use Rattle.types.specs.declared.Place.{Place}
@@ -16,10 +16,10 @@ use Rattle.types.specs.declared.TConfiguration.{TConfiguration}
 use Rattle.types.specs.Value.{Tree}
 use Rattle.numbers.specs.Varint.{Found, got, refused, groups, placed}
 use Rattle.numbers.proofs.Found.{by_lt}
-use Rattle.heads.specs.Reader.{Reader, done, refuse, onward, and_then, some, read_at}
+use Rattle.heads.specs.Reader.{Reader, done, refuse, and_then, some, read_at}
 use Rattle.heads.specs.Heads.{int8, int16, int32, int64, double, uuid, truth, binary}
 use Rattle.heads.specs.Answers.{place}
-use Rattle.skip.specs.Value.{many, shut, shaped, value_of}
+use Rattle.skip.specs.Value.{many, value_of}
 use Rattle.skip.specs.Skip.{passed, past, skip_of}
 use Rattle.skip.specs.Leaves.{times, none_of, scalar_of}
 use Rattle.skip.specs.declared.Skipped.{Skipped}

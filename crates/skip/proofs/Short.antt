@@ -24,7 +24,7 @@ use Rattle.types.specs.Value as val
 use Rattle.numbers.specs.Varint.{got}
 use Rattle.numbers.proofs.Found.{by_lt}
 use Rattle.heads.specs.Reader.{Reader, read_at}
-use Rattle.heads.specs.Heads.{int8, int16, int32, int64, double, uuid, Field, bool, value, field_id, of_type, field}
+use Rattle.heads.specs.Heads.{int8, int16, int32, int64, double, uuid, bool, value, field_id, of_type, field}
 use Rattle.heads.proofs.Steps.{step, done_at, byte_at}
 use Rattle.heads.proofs.Fields.{code_sum, id_wide, id_fits, id_back, id_is, high_four, delta_wide}
 use Rattle.skip.specs.Value.{value_of}
@@ -32,7 +32,7 @@ use Rattle.skip.specs.Skip.{past}
 use Rattle.skip.specs.Walk.{fields}
 use Rattle.skip.specs.Leaves.{is_leaf, scalar_of, Hop, Hops, Onward}
 use Rattle.skip.specs.declared.Skipped.{Skipped}
-use Rattle.skip.specs.declared.Skipped.TheVariants.{Done, Refused}
+use Rattle.skip.specs.declared.Skipped.TheVariants.{Done}
 use Rattle.skip.proofs.Past.{done_refused, read_past, past_made}
 use Rattle.skip.proofs.Lawfuls.{value_lawful}
 use Rattle.skip.proofs.Leaf.{flat, i8_ends, i32_ends, i64_ends, double_ends, uuid_ends}

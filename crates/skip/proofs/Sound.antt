@@ -1,11 +1,9 @@
 -- What is read is spelt by the bytes that it took. Assumes nothing.
-use mathlib.Core.Path.{◌≡◌, refl, sym, ap, ap₂, subst, ◌∙◌}
+use mathlib.Core.Path.{◌≡◌, refl, sym, ap, subst, ◌∙◌}
 use mathlib.Core.Bool.{Bool, true, false}
-use mathlib.Core.Logic.{◌⊎◌, inl, inr}
+use mathlib.Core.Logic.{inl, inr}
 use mathlib.Core.List.{List, [], ◌∷◌, ◌++◌}
 use Prim.Native.Nat.{ℕ, zero, suc, ◌+◌, ◌-◌, ◌≤◌, ◌<◌}
-use native.Mathlib.Nat.{add-zero}
-use native.Mathlib.Numerals.{sub-one}
 use native.Mathlib.Omega.{arith}
 use lib.ListN.{length, take, drop, length-drop}
 use lib.Seq.{take-add}
@@ -16,14 +14,14 @@ use Rattle.types.specs.declared.TType.TheVariants as T
 use Rattle.types.specs.declared.TConfiguration.{TConfiguration}
 use Rattle.types.specs.Value as val
 use Rattle.types.specs.Value.{Tree, Trees, no_trees, tree, Pairs, no_pairs, pair, Fields, no_fields, size, size_p}
-use Rattle.numbers.specs.Varint.{Found, got, refused, placed}
-use Rattle.heads.specs.Reader.{Reader, done, refuse, onward, and_then, provided, Whole}
+use Rattle.numbers.specs.Varint.{got}
+use Rattle.heads.specs.Reader.{Reader, done, refuse, and_then, provided, Whole}
 use Rattle.heads.specs.Heads.{int8, int16, int32, int64, double, uuid, truth, binary, items, pairs, items_head, pairs_head, Field, stop, bool, value, field}
 use Rattle.heads.specs.Spells.{Spells, SpellsAll, SpellsPairs, SpellsFields}
 use Rattle.heads.proofs.Lawful.{Lawful, Both, both, not_both, whole_of}
 use Rattle.heads.proofs.Ahead.{items_of, pairs_of}
 use Rattle.heads.proofs.Readers.{int8_lawful, int16_lawful, int32_lawful, int64_lawful, double_lawful, uuid_lawful, truth_lawful, binary_lawful, items_lawful, pairs_lawful, field_lawful, field_takes}
-use Rattle.skip.specs.Walk.{Entry, with_size, sizing, behind, fields}
+use Rattle.skip.specs.Walk.{Entry, sizing, behind, fields}
 use Rattle.skip.specs.Value.{many, many_pairs, fields_of, startable, Boxes, shut, boxed, roomy, shaped, value_of}
 use Rattle.skip.proofs.Walks.{sized, fields_step}
 

@@ -1,15 +1,15 @@
 -- The walk over fields: how many it may take at most has no say, and its one step. Assumes nothing.
-use mathlib.Core.Path.{◌≡◌, refl, sym, ap, ap₂, ◌∙◌}
+use mathlib.Core.Path.{◌≡◌, refl, sym, ap, ap₂}
 use mathlib.Core.Bool.{Bool}
 use mathlib.Core.List.{List, [], ◌∷◌}
-use Prim.Native.Nat.{ℕ, zero, suc, ◌+◌, ◌-◌, ◌≤◌, ◌<◌}
+use Prim.Native.Nat.{ℕ, zero, suc, ◌≤◌, ◌<◌}
 use native.Mathlib.Omega.{arith}
 use lib.ListN.{length, drop, length-drop}
 use lib.IntN.{ℤ}
 use Rattle.types.specs.Refusals.{END}
 use Rattle.types.specs.declared.TType.{TType}
 use Rattle.numbers.specs.Varint.{Found, got, refused, placed}
-use Rattle.heads.specs.Reader.{Reader, done, refuse, onward, and_then, byte}
+use Rattle.heads.specs.Reader.{Reader, refuse, onward, and_then, byte}
 use Rattle.heads.specs.Heads.{Field, stop, bool, value, field}
 use Rattle.heads.proofs.Lawful.{not_both}
 use Rattle.heads.proofs.Readers.{field_takes, field_lawful}

@@ -3,7 +3,6 @@ use Rattle.std.specs.Prelude.{ℕ, ◌-◌, cond, List, length, eqb}
 use Rattle.types.specs.Refusals.{OUT_OF_TURN, BAD_STATE}
 use Rattle.types.specs.Codes.{type_code}
 use Rattle.types.specs.declared.TType.{TType}
-use Rattle.types.specs.declared.TType.TheVariants as T
 use Rattle.types.specs.declared.TConfiguration.{TConfiguration}
 use Rattle.numbers.specs.Varint.{Found, got, refused}
 use Rattle.heads.specs.Reader.{Reader, read_at, read_to}

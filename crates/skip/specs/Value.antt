@@ -1,6 +1,6 @@
 -- The value that stands in the bytes, with the refusals in reading order: the rules of "Skip", by recursion on the room left under the depth limit.
 -- Assumes nothing: these are definitions.
-use Rattle.std.specs.Prelude.{ℕ, zero, suc, Bool, true, cond, List, [], ◌∷◌, eqb, ltb, ℤ, pos}
+use Rattle.std.specs.Prelude.{ℕ, zero, suc, Bool, true, cond, List, [], ◌∷◌, eqb, ltb, pos}
 use Rattle.types.specs.Refusals.{BAD_TYPE, DEPTH}
 use Rattle.types.specs.Codes.{type_code}
 use Rattle.types.specs.declared.TType.{TType}

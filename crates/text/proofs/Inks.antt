@@ -3,8 +3,7 @@ use mathlib.Core.Path.{◌≡◌, refl, sym, ap, ◌∙◌}
 use mathlib.Core.Bool.{Bool, true, false, cond}
 use mathlib.Core.List.{List, [], ◌∷◌, ◌++◌}
 use Prim.Native.Nat.{ℕ, zero, suc, ◌+◌, ◌-◌, ◌*◌, ◌/◌, ◌%◌, ◌^◌, ◌≤◌, ◌<◌}
-use native.Mathlib.Nat.{add-zero}
-use native.Mathlib.Numerals.{add-one, sub-one}
+use native.Mathlib.Numerals.{add-one}
 use native.Mathlib.Omega.{arith}
 use borrow.Author.Rules.{sfits_of}
 use borrow.Author.Tests.{lt-ltb, le-ltb}
@@ -16,7 +15,7 @@ use mir.Facts.{to_z-of_z}
 use Rattle.types.specs.declared.TType.{TType}
 use Rattle.zigzag.specs.Zigzag.{zigzag}
 use Rattle.text.specs.Pen.{Pen, dot, inked}
-use Rattle.text.specs.Words.{ascii, digit, digits, decimal, signed, hex_digit, hex, hexes, type_name, truth_name}
+use Rattle.text.specs.Words.{digit, digits, decimal, signed, hex_digit, hex, hexes, type_name, truth_name}
 
 -- put_byte
 module _ (out : List ℕ) (to b : ℕ) where

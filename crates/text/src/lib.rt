@@ -33,6 +33,7 @@ pub fn put_word(out: &mut [u8], to: usize, word: &[u8]) -> usize
 }
 
 // A number in decimal: the digits above the last, and then the last.
+#[tactic(auto, using(crate::proofs::Inks::decimal_cases))]
 pub fn put_decimal(out: &mut [u8], to: usize, n: u64) -> usize
     ensures { (out.new, result) ≡ inked (decimal n) (out.old, to) }
 {
@@ -66,6 +67,7 @@ fn hex_digit(d: u64) -> u8
 }
 
 // So many hex digits of a number, the highest first.
+#[tactic(auto, using(crate::proofs::Inks::hex_cases))]
 pub fn put_hex(out: &mut [u8], to: usize, n: u64, count: usize) -> usize
     ensures { (out.new, result) ≡ inked (hex count n) (out.old, to) }
 {

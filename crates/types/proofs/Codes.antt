@@ -1,13 +1,12 @@
 -- The codes there and back: each type reads back from its code in a container, in a field and by number, and a code that reads as a type is
 -- that type's, a bool's second one apart. Assumes nothing.
 use mathlib.Core.Path.{◌≡◌, refl, sym, ap, ◌∙◌}
-use mathlib.Core.Bool.{Bool, true, false, cond}
+use mathlib.Core.Bool.{Bool, true, false}
 use mathlib.Core.List.{List, [], ◌∷◌}
 use mathlib.Core.Logic.{◌⊎◌, inl, inr, ⊎_elim}
 use Prim.Native.Nat.{ℕ, zero, suc, ◌+◌, ◌<◌, ◌≤◌}
-use native.Mathlib.Nat.{add-suc, suc-add}
 use native.Mathlib.Omega.{arith}
-use borrow.Author.Tests.{eq-eqb, ne_eqb, eqb-true}
+use borrow.Author.Tests.{ne_eqb, eqb-true}
 use lib.ListN.{get_or, get_or-eq_default}
 use lib.Dec.{eqb}
 use Rattle.types.proofs.Tables.{Misses, missed}
@@ -17,11 +16,9 @@ use Rattle.types.specs.declared.TType.{TType}
 use Rattle.types.specs.declared.TType.TheVariants as T
 use Rattle.types.specs.declared.TypeRead.{TypeRead}
 use Rattle.types.specs.declared.TypeRead.TheVariants as R
-use Rattle.types.specs.declared.FieldType.{FieldType}
 use Rattle.types.specs.declared.FieldType.TheVariants as F
 use Rattle.types.specs.declared.TMessageType.{TMessageType}
 use Rattle.types.specs.declared.TMessageType.TheVariants as M
-use Rattle.types.specs.declared.MessageTypeRead.{MessageTypeRead}
 use Rattle.types.specs.declared.MessageTypeRead.TheVariants as MR
 
 -- a type's own code, by number

@@ -1,6 +1,5 @@
 -- No value has the type Stop. Assumes nothing.
-use mathlib.Core.Path.{◌≡◌}
-use Prim.Native.Nat.{ℕ, ◌<◌}
+use Prim.Native.Nat.{◌<◌}
 use native.Mathlib.Omega.{arith}
 use Rattle.types.specs.Codes.{type_code}
 use Rattle.types.specs.Value.{Tree, truth, i8, i16, i32, i64, double, uuid, bytes, list, set, map, struct, type_of}

@@ -1,5 +1,5 @@
 -- The value tree: what a value is, whatever bytes a protocol writes for it. Assumes nothing: these are definitions.
-use Rattle.std.specs.Prelude.{ℕ, zero, suc, ◌+◌, ◌^◌, ◌≤◌, ◌<◌, max, ◌≡◌, Bool, List, [], ◌∷◌, length, ℤ}
+use Rattle.std.specs.Prelude.{ℕ, suc, ◌+◌, ◌^◌, ◌≤◌, ◌<◌, max, ◌≡◌, Bool, List, [], ◌∷◌, length, ℤ}
 use Rattle.std.specs.Int.{w8, w16, w32, w64}
 use Rattle.std.proofs.Common.{SFits}
 use Rattle.types.specs.declared.TType.{TType}

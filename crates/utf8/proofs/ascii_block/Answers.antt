@@ -1,4 +1,3 @@
-use Prim.Native.Nat.{◌-◌}
 use borrow.Author.Rules.{rules}
 use borrow.Author.Count.{below_none}
 use Rattle.utf8.proofs.Steps.{join_more, joined, not_so}

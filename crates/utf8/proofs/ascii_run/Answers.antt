@@ -1,4 +1,3 @@
-use Prim.Native.Nat.{◌-◌}
 use borrow.Author.Rules.{rules}
 use Rattle.utf8.proofs.Steps.{over_block}
 use Rattle.utf8.proofs.ascii_run.Goals as goal

@@ -9,4 +9,4 @@ skip-spec =
     tie.close
     (tie.spec
     (λ c κs. search rules)
-    (λ c. (c.skip_call_lem.ensures, call_exact _ _ _ _ c.skip_call_lem.ensures)))
+    (λ c. (c.skip_call.ensures, call_exact _ _ _ _ c.skip_call.ensures)))

@@ -1,0 +1,8 @@
+use Rattle.heads.proofs.Cases.{double_cases}
+use Rattle.heads.proofs.read_double.Goals as goal
+
+pub returns-in-Got : goal.returns-in-Got
+returns-in-Got c = search double_cases
+
+pub returns-in-Refused : goal.returns-in-Refused
+returns-in-Refused c = search double_cases

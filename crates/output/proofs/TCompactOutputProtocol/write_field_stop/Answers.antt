@@ -1,0 +1,8 @@
+use Rattle.output.proofs.Cases.{plain_cases}
+use Rattle.output.proofs.TCompactOutputProtocol.write_field_stop.Goals as goal
+
+pub returns-then-why-ne0 : goal.returns-then-why-ne0
+returns-then-why-ne0 c = search plain_cases
+
+pub returns : goal.returns
+returns c = search plain_cases

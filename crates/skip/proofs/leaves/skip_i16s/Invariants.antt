@@ -1,0 +1,11 @@
+use mathlib.Core.Path.{◌≡◌}
+use Rattle.heads.specs.Heads.{int16}
+use Rattle.skip.specs.Skip.{past}
+use Rattle.skip.specs.Leaves.{times}
+use Rattle.skip.proofs.leaves.skip_i16s.Given as goal
+
+abbrev pub invariant-loop-left : goal.invariant-loop-left
+invariant-loop-left l = past (times l.left int16) l.s l.p.0 ≡ past (times l.initial.left int16) l.s l.initial.p.0
+
+abbrev pub decreases-loop-left : goal.decreases-loop-left
+decreases-loop-left l = l.left
