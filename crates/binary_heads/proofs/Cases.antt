@@ -2,12 +2,12 @@
 use mathlib.Core.Path.{◌≡◌, refl, sym, ap, ap₂, ◌∙◌}
 use mathlib.Core.Bool.{Bool, true, false, cond}
 use mathlib.Core.Logic.{⊎_elim}
-use mathlib.Core.List.{List, []}
-use Prim.Native.Nat.{ℕ, zero, suc, ◌+◌, ◌-◌, ◌*◌, ◌/◌, ◌%◌, ◌≤◌, ◌<◌}
+use mathlib.Core.List.{List}
+use Prim.Native.Nat.{ℕ, ◌+◌, ◌-◌, ◌/◌, ◌%◌, ◌≤◌, ◌<◌}
 use native.Mathlib.Nat.{add-zero}
 use native.Mathlib.Decide.{dec_lt}
 use native.Mathlib.Omega.{arith}
-use borrow.Author.Tests.{lt-ltb, le-ltb, le-leb, lt-leb, eq-eqb, ne_eqb, ltb-true, ltb-false}
+use borrow.Author.Tests.{lt-ltb, le-ltb, le-leb, lt-leb, eq-eqb, ne_eqb}
 use lib.Dec.{eqb, leb, ltb}
 use lib.IntN.{ℤ, pos}
 use lib.ListN.{length, get_or, take, drop, length-drop}
@@ -27,7 +27,7 @@ use Rattle.types.specs.declared.MessageTypeRead.{MessageTypeRead}
 use Rattle.types.specs.declared.MessageTypeRead.TheVariants as MR
 use Rattle.types.specs.declared.TConfiguration.{TConfiguration}
 use Rattle.types.proofs.Tables.{Misses, missed}
-use Rattle.numbers.specs.Varint.{Found, got, refused, placed}
+use Rattle.numbers.specs.Varint.{Found, got, refused}
 use Rattle.numbers.specs.Answers.{as_bits32, as_bits}
 use Rattle.numbers.specs.declared.Bits32.{Bits32}
 use Rattle.numbers.specs.declared.Bits32.TheVariants as B32
@@ -39,8 +39,8 @@ use Rattle.big_endian.specs.Answers.{as_bits16, big_at, word16_at, word32_at, wo
 use Rattle.big_endian.specs.declared.Bits16.{Bits16}
 use Rattle.big_endian.specs.declared.Bits16.TheVariants as B16
 use Rattle.utf8.specs.Utf8.{utf8}
-use Rattle.heads.specs.Reader.{Reader, done, refuse, and_then, provided, byte, some, read_at}
-use Rattle.heads.specs.Heads.{typed, counted, listed, Field, stop, value, Message, message_typed}
+use Rattle.heads.specs.Reader.{Reader, done, and_then, provided, some, read_at}
+use Rattle.heads.specs.Heads.{typed, counted, listed, Field, stop, value, message_typed}
 use Rattle.heads.specs.Answers.{place, id_of, seq_of, to_i16, to_i32, to_i64, to_double, to_bool, to_part, some_at, count_why, to_list, to_map, to_field}
 use Rattle.heads.specs.declared.I16Read.{I16Read}
 use Rattle.heads.specs.declared.I16Read.TheVariants as I16
@@ -50,11 +50,9 @@ use Rattle.heads.specs.declared.DoubleRead.TheVariants as D
 use Rattle.heads.specs.declared.BoolRead.TheVariants as B
 use Rattle.heads.specs.declared.PartRead.{PartRead}
 use Rattle.heads.specs.declared.PartRead.TheVariants as P
-use Rattle.heads.specs.declared.ListHead.{ListHead}
 use Rattle.heads.specs.declared.ListHead.TheVariants as L
 use Rattle.heads.specs.declared.MapHead.{MapHead}
 use Rattle.heads.specs.declared.MapHead.TheVariants as M
-use Rattle.heads.specs.declared.FieldHead.{FieldHead}
 use Rattle.heads.specs.declared.FieldHead.TheVariants as F
 use Rattle.heads.proofs.Lawful.{not_both}
 use Rattle.heads.proofs.Steps.{step, stop_at, split, done_at, refuse_at, byte_at, byte_out, provided_yes, provided_no}

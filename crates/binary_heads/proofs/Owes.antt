@@ -1,12 +1,11 @@
 -- The binary protocol's words owe what the record asks: each is lawful and takes at least its type's least size. Assumes nothing.
-use mathlib.Core.Path.{◌≡◌, refl, sym, ap, ◌∙◌}
+use mathlib.Core.Path.{◌≡◌, refl}
 use mathlib.Core.Bool.{Bool, true, false, cond}
 use mathlib.Core.List.{List, []}
-use Prim.Native.Nat.{ℕ, ◌+◌, ◌/◌, ◌%◌, ◌≤◌, ◌<◌}
+use Prim.Native.Nat.{ℕ, ◌+◌, ◌%◌, ◌≤◌, ◌<◌}
 use native.Mathlib.Omega.{arith}
 use lib.Dec.{eqb}
-use lib.ListN.{length, drop}
-use lib.IntN.{ℤ}
+use lib.ListN.{drop}
 use Rattle.types.specs.Refusals.{END}
 use Rattle.types.specs.Codes.{message_by_number}
 use Rattle.types.specs.declared.TType.{TType}
@@ -17,10 +16,10 @@ use Rattle.types.specs.declared.TMessageType.{TMessageType}
 use Rattle.types.specs.declared.MessageTypeRead.{MessageTypeRead}
 use Rattle.types.specs.declared.MessageTypeRead.TheVariants as MR
 use Rattle.types.specs.declared.TConfiguration.{TConfiguration}
-use Rattle.numbers.specs.Varint.{Found, got, refused}
-use Rattle.heads.specs.Reader.{Reader, done, refuse, and_then, provided, byte, some}
-use Rattle.heads.specs.Heads.{uuid, typed, counted, listed, Field, message_typed}
-use Rattle.heads.proofs.Lawful.{Lawful, Takes, Both, both, done_lawful, refuse_lawful, then_lawful, provided_lawful, byte_lawful, some_lawful, byte_takes, then_takes}
+use Rattle.numbers.specs.Varint.{got, refused}
+use Rattle.heads.specs.Reader.{Reader, and_then, byte, some}
+use Rattle.heads.specs.Heads.{uuid, typed, counted, Field, message_typed}
+use Rattle.heads.proofs.Lawful.{Lawful, both, done_lawful, refuse_lawful, then_lawful, provided_lawful, byte_lawful, some_lawful, byte_takes, then_takes}
 use Rattle.heads.proofs.Readers.{int8_lawful, int8_takes, uuid_lawful, listed_lawful}
 use Rattle.skip.proofs.Sound.{unmade}
 use Rattle.binary_codes.specs.Codes.{by_binary_code, least_size}

@@ -1,6 +1,6 @@
 -- What the calls answer at each of their returns, from what they know there. Assumes nothing.
 use mathlib.Core.Path.{◌≡◌, refl, sym, ap, ◌∙◌}
-use mathlib.Core.List.{List, []}
+use mathlib.Core.List.{List}
 use mathlib.Core.Bool.{Bool, true, false}
 use Prim.Native.Nat.{ℕ, ◌+◌, ◌-◌, ◌≤◌, ◌<◌, min}
 use native.Mathlib.Omega.{arith}
@@ -22,7 +22,7 @@ use Rattle.types.specs.declared.FieldId.{FieldId}
 use Rattle.types.specs.declared.SeqNo.{SeqNo}
 use Rattle.types.proofs.Limits.{ranged}
 use Rattle.numbers.specs.Varint.{Found, got, refused}
-use Rattle.heads.specs.Reader.{Reader, read_at, missing, missed, read_to}
+use Rattle.heads.specs.Reader.{Reader, read_at, missing, missed}
 use Rattle.heads.specs.Heads.{Field, stop, bool, value, Message}
 use Rattle.heads.specs.Answers.{place, to_i8, to_i16, to_i32, to_i64, to_double, to_bool, to_part, to_list, to_map, to_field}
 use Rattle.heads.specs.Answers as own
@@ -59,7 +59,7 @@ use Rattle.binary_heads.specs.Answers.{to_message, text_at, message_at}
 use Rattle.binary_heads.specs.declared.MessageHead.{MessageHead}
 use Rattle.binary_heads.specs.declared.MessageHead.TheVariants as hH
 use Rattle.binary_input.specs.State.{State, sound, gate, cut_of, begun_here, moved_to, entered, left}
-use Rattle.binary_input.specs.Outcome.{Outcome, answers, declines, from, stays, calls_to, calls, cut_here, begins, ends}
+use Rattle.binary_input.specs.Outcome.{Outcome, answers, declines, from, stays, calls_to, cut_here, begins, ends}
 use Rattle.binary_input.specs.Answers.{as_bool, as_i8, as_i16, as_i32, as_i64, as_double, as_part, as_list, as_map, as_field, as_message, as_done}
 use Rattle.binary_input.specs.Calls as call
 use Rattle.binary_input.specs.declared.ReadBool.{ReadBool}

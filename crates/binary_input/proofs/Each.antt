@@ -2,16 +2,15 @@
 -- nothing.
 use mathlib.Core.Path.{◌≡◌, refl, sym, ap, ◌∙◌}
 use mathlib.Core.Logic.{◌↔◌}
-use mathlib.Core.Bool.{Bool, true, false, cond}
+use mathlib.Core.Bool.{Bool, true, false}
 use mathlib.Core.List.{List}
-use Prim.Native.Nat.{ℕ, ◌+◌, ◌≤◌, ◌<◌}
+use Prim.Native.Nat.{ℕ, ◌≤◌}
 use native.Mathlib.Omega.{arith}
 use borrow.Author.Tests.{eqb-true, eq-eqb}
 use lib.Dec.{eqb}
 use lib.ListN.{length, take}
 use lib.IntN.{pos}
 use Rattle.types.specs.Refusals.{BAD_STATE, OUT_OF_TURN}
-use Rattle.types.specs.declared.TConfiguration.{TConfiguration}
 use Rattle.numbers.specs.Varint.{Found, got, refused}
 use Rattle.numbers.proofs.Found.{as_long, zero_one}
 use Rattle.heads.specs.Reader.{Reader, read_to}
@@ -26,8 +25,8 @@ use Rattle.protocols.specs.Words.{items_head, pairs_head}
 use Rattle.binary_heads.specs.Heads.{text}
 use Rattle.binary_heads.specs.Words.{binary}
 use Rattle.binary_heads.proofs.Owes.{binary_owes, text_lawful, message_lawful}
-use Rattle.binary_input.specs.State.{State, sound, gate, cut_of, begun_here, left}
-use Rattle.binary_input.specs.Outcome.{Outcome, answers, declines, guarded, from, stays, calls_to, cut_here, ends}
+use Rattle.binary_input.specs.State.{State, sound, gate, cut_of, begun_here}
+use Rattle.binary_input.specs.Outcome.{Outcome, from, stays, calls_to, cut_here, ends}
 use Rattle.binary_input.proofs.Gate.{Sound, is_sound, sound_is, Gated, bad, through, gated, gate_free}
 use Rattle.binary_input.proofs.Told.{int16_told, int32_told, int64_told, double_told, truth_told, binary_told, text_told, items_head_told, pairs_head_told, field_told, message_told_lem}
 

@@ -1,7 +1,7 @@
 -- The parts handed out: the places that a call answered are in order and in the input. Assumes nothing.
 use mathlib.Core.Path.{◌≡◌, refl, sym, ap, ◌∙◌}
 use mathlib.Core.List.{List, []}
-use mathlib.Core.Bool.{Bool, true, false}
+use mathlib.Core.Bool.{true}
 use Prim.Native.Nat.{ℕ, ◌+◌, ◌-◌, ◌≤◌}
 use native.Mathlib.Omega.{arith}
 use lib.ListN.{length, take, drop}
@@ -26,7 +26,7 @@ use Rattle.binary_heads.specs.Heads.{text}
 use Rattle.binary_heads.specs.Words.{binary}
 use Rattle.binary_heads.proofs.Owes.{binary_owes, text_lawful, message_lawful}
 use Rattle.binary_input.specs.State.{State, sound, gate, cut_of, begun_here}
-use Rattle.binary_input.specs.Outcome.{Outcome, answers, declines, from, stays, calls_to, cut_here}
+use Rattle.binary_input.specs.Outcome.{Outcome, declines, from, stays, calls_to, cut_here}
 use Rattle.binary_input.specs.Answers.{as_part, as_message}
 use Rattle.binary_input.specs.Calls.{read_uuid, read_bytes, read_string, read_message, uuid_part, bytes_part, string_part, name_part}
 use Rattle.binary_input.specs.declared.ReadPart.{ReadPart}

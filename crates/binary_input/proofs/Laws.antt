@@ -1,24 +1,22 @@
 -- What every call of the binary reader keeps to: a refusal hands back the state as given, and a sound state stays sound. Assumes nothing.
-use mathlib.Core.Path.{◌≡◌, refl, sym, ap, ◌∙◌}
+use mathlib.Core.Path.{◌≡◌, refl}
 use mathlib.Core.Bool.{Bool, true, false, cond}
 use mathlib.Core.List.{List}
-use Prim.Native.Nat.{ℕ, ◌+◌, ◌-◌, ◌≤◌, ◌<◌}
+use Prim.Native.Nat.{ℕ, ◌≤◌}
 use native.Mathlib.Omega.{arith}
-use borrow.Author.Tests.{leb-true, leb-false, eqb-true}
+use borrow.Author.Tests.{leb-false}
 use lib.Dec.{eqb, leb}
 use lib.ListN.{length}
 use lib.IntN.{pos}
-use Rattle.types.specs.Refusals.{BAD_STATE, DEPTH, OUT_OF_TURN}
+use Rattle.types.specs.Refusals.{DEPTH, OUT_OF_TURN}
 use Rattle.types.specs.declared.TType.{TType}
-use Rattle.types.specs.declared.Place.{Place}
 use Rattle.numbers.specs.Varint.{Found, got, refused}
 use Rattle.heads.specs.Reader.{Reader, read_to}
 use Rattle.heads.specs.Heads.{Field, stop, bool, value}
 use Rattle.heads.specs.Answers.{place}
 use Rattle.heads.proofs.Ahead.{Fair, lawful_fair, backed_fair}
 use Rattle.heads.proofs.Cut.{was_cut}
-use Rattle.heads.proofs.Readers.{uuid_lawful}
-use Rattle.input.specs.Outcome.{Said, says, refuses}
+use Rattle.input.specs.Outcome.{Said, says}
 use Rattle.input.specs.Answers.{to_bool, to_i8, to_i16, to_i32, to_i64, to_double, to_part, to_list, to_map, to_field, to_done, number_bool, number_i8, number_i16, number_i32, number_i64, number_double, number_part, number_list, number_map, number_field, number_message, number_done}
 use Rattle.skip.specs.declared.Skipped.{Skipped}
 use Rattle.skip.specs.declared.Skipped.TheVariants.{Done, Refused}
@@ -30,7 +28,7 @@ use Rattle.skip.proofs.Past.{was_read}
 use Rattle.binary_heads.specs.Heads.{text}
 use Rattle.binary_heads.specs.Words.{binary}
 use Rattle.binary_heads.proofs.Owes.{binary_owes, text_lawful, message_lawful}
-use Rattle.binary_input.specs.State.{State, sound, gate, cut_of, begun_here, moved_to, entered, left, room_of}
+use Rattle.binary_input.specs.State.{State, sound, cut_of, begun_here, moved_to, entered, left, room_of}
 use Rattle.binary_input.specs.Outcome.{Outcome, answers, declines, guarded, from, stays, calls_to, cut_here, begins, ends}
 use Rattle.binary_input.specs.Answers.{to_message}
 use Rattle.binary_input.specs.Calls.{read_bool, read_i8, read_i16, read_i32, read_i64, read_double, read_uuid, read_bytes, read_string, read_list, read_set, read_map, read_field, read_message, struct_begin, struct_end, over, skip_call}

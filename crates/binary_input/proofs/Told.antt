@@ -1,21 +1,19 @@
 -- The refusals of the binary protocol's readers: none reads as an answer, as BAD STATE, as OUT OF TURN or as MESSAGE SIZE. Assumes nothing.
-use mathlib.Core.Path.{◌≡◌, refl, sym, ap, subst, ◌∙◌}
-use mathlib.Core.Bool.{Bool, true, false, cond}
+use mathlib.Core.Path.{◌≡◌, refl, sym, subst}
+use mathlib.Core.Bool.{Bool, true, false}
 use mathlib.Core.List.{List, [], ◌∷◌}
-use Prim.Native.Nat.{ℕ, zero, suc, ◌/◌, ◌%◌}
+use Prim.Native.Nat.{ℕ, zero, suc, ◌%◌}
 use lib.Dec.{eqb, leb}
 use lib.ListN.{length, get_or}
 use Rattle.types.specs.Refusals.{END, BAD_VERSION, BAD_MESSAGE_TYPE, BAD_TYPE, BAD_BOOL, SIZE_LIMIT, NEGATIVE_SIZE, BAD_UTF8}
 use Rattle.types.specs.Codes.{messages, message_by_number}
-use Rattle.types.specs.declared.TType.{TType}
 use Rattle.types.specs.declared.TypeRead.{TypeRead}
 use Rattle.types.specs.declared.TypeRead.TheVariants as R
-use Rattle.types.specs.declared.TMessageType.{TMessageType}
 use Rattle.types.specs.declared.MessageTypeRead.{MessageTypeRead}
 use Rattle.types.specs.declared.MessageTypeRead.TheVariants as MR
 use Rattle.types.specs.declared.TConfiguration.{TConfiguration}
-use Rattle.numbers.specs.Varint.{Found, got, refused}
-use Rattle.heads.specs.Reader.{Reader, done, refuse, and_then, provided, byte, some, ahead, backed}
+use Rattle.numbers.specs.Varint.{Found, refused}
+use Rattle.heads.specs.Reader.{Reader, byte, some, ahead, backed}
 use Rattle.heads.specs.Heads.{typed, counted, listed, message_typed}
 use Rattle.heads.proofs.Lawful.{not_both}
 use Rattle.input.proofs.Refusals.{Own, own, Told, done_told, refuse_told, then_told, cond_told, provided_told}

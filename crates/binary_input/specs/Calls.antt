@@ -1,7 +1,6 @@
 -- What each call answers. Assumes nothing: these are definitions.
 use Rattle.std.specs.Prelude.{ℕ, List, pos}
 use Rattle.types.specs.declared.TType.{TType}
-use Rattle.types.specs.declared.Place.{Place}
 use Rattle.heads.specs.Answers.{place}
 use Rattle.input.specs.Answers.{part_of, name_of}
 use Rattle.skip.specs.declared.Skipped.{Skipped}

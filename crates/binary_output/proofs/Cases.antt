@@ -1,8 +1,8 @@
 -- What the calls answer, and what they leave, at each of their returns: once for all calls, over the one definition. Assumes nothing.
-use mathlib.Core.Path.{◌≡◌, refl, sym, ap, ◌∙◌}
+use mathlib.Core.Path.{◌≡◌, sym, ap, ◌∙◌}
 use mathlib.Core.Bool.{Bool}
 use mathlib.Core.List.{List, [], ◌∷◌}
-use Prim.Native.Nat.{ℕ, ◌+◌, ◌-◌, ◌^◌, ◌≤◌, ◌<◌}
+use Prim.Native.Nat.{ℕ, ◌+◌, ◌≤◌}
 use native.Mathlib.Nat.{add-zero}
 use native.Mathlib.Omega.{arith}
 use borrow.Author.Rules.{sfits_of}
@@ -13,8 +13,6 @@ use mir.Syntax.{w8, w16, w32, w64}
 use mir.Val.{Fits, of_z}
 use mir.Facts.{to_z-of_z}
 use Rattle.types.specs.declared.TType.{TType}
-use Rattle.types.specs.declared.TMessageType.{TMessageType}
-use Rattle.types.specs.declared.FieldId.{FieldId}
 use Rattle.types.specs.declared.TConfiguration.{TConfiguration}
 use Rattle.numbers.specs.Answers.{wrote_at, put_at}
 use Rattle.numbers.specs.declared.Wrote.{Wrote}
@@ -25,7 +23,7 @@ use Rattle.puts.specs.Wrong.{or_else, count_wrong}
 use Rattle.puts.proofs.Checks.{both_none}
 use Rattle.big_endian.specs.Big.{big2, big4, big8}
 use Rattle.big_endian.proofs.Big.{length_big2, length_big4, length_big8}
-use Rattle.binary_puts.specs.Bytes.{int16_bytes, int32_bytes, int64_bytes, truth_byte, field_bytes, items_bytes, pairs_bytes, string_bytes, message_bytes}
+use Rattle.binary_puts.specs.Bytes.{int16_bytes, int32_bytes, int64_bytes, truth_byte, field_bytes, items_bytes, pairs_bytes}
 use Rattle.binary_puts.proofs.Pieces.{field_long, items_long, pairs_long, string_long, message_long}
 use Rattle.binary_output.specs.State.{State, unsound, begun_here, moved_to, entered, ended}
 use Rattle.binary_output.specs.Calls.{call, refused_by, written, settled, size_wrong, why_not, writes, leaves, begin_wrong, end_wrong}

@@ -1,6 +1,6 @@
 -- Which numbers the binary writer's calls give: BAD TYPE, SIZE LIMIT, NEGATIVE SIZE, DEPTH, BAD UTF-8, OUT OF TURN, NO ROOM, BAD STATE and MESSAGE SIZE, and no other. So 13 is
 -- never given. Assumes nothing.
-use mathlib.Core.Path.{◌≡◌, refl, sym, ap, subst, ◌∙◌}
+use mathlib.Core.Path.{◌≡◌, refl, ap, ◌∙◌}
 use mathlib.Core.Bool.{Bool, true, false, cond, ◌&&◌, ◌||◌}
 use mathlib.Core.List.{List}
 use Prim.Native.Nat.{ℕ}

@@ -1,6 +1,6 @@
 -- A sound state stays sound, for each call: its place lies in the buffer, no earlier than its message began and no later than the message must have
 -- ended. Assumes nothing.
-use mathlib.Core.Path.{◌≡◌, refl}
+use mathlib.Core.Path.{refl}
 use mathlib.Core.Bool.{Bool}
 use mathlib.Core.List.{List}
 use Prim.Native.Nat.{ℕ}
@@ -12,7 +12,7 @@ use Rattle.types.specs.declared.TMessageType.{TMessageType}
 use Rattle.types.specs.declared.FieldId.{FieldId}
 use Rattle.types.specs.declared.SeqNo.{SeqNo}
 use Rattle.binary_output.specs.State.{State, begun_here, entered, ended}
-use Rattle.binary_output.specs.Calls.{Call, call, writes, leaves, begin_wrong, end_wrong, message_call, struct_begin_call, struct_end_call, field_call, stop_call, bool_call, i8_call, i16_call, i32_call, i64_call, double_call, uuid_call, bytes_call, string_call, items_call, pairs_call}
+use Rattle.binary_output.specs.Calls.{Call, writes, leaves, begin_wrong, end_wrong, message_call, struct_begin_call, struct_end_call, field_call, stop_call, bool_call, i8_call, i16_call, i32_call, i64_call, double_call, uuid_call, bytes_call, string_call, items_call, pairs_call}
 use Rattle.binary_output.proofs.Checks.{Sound, begin_fits}
 use Rattle.binary_output.proofs.Laws.{Follows, still_sound}
 

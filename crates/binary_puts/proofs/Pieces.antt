@@ -1,5 +1,5 @@
 -- The bytes of headers, put into the buffer one piece behind the other. Assumes nothing.
-use mathlib.Core.Path.{◌≡◌, refl, sym, ap, ap₂, ◌∙◌}
+use mathlib.Core.Path.{◌≡◌, refl, ap, ◌∙◌}
 use mathlib.Core.Bool.{Bool, true, false, cond}
 use mathlib.Core.List.{List, [], ◌∷◌, ◌++◌, append_assoc}
 use Prim.Native.Nat.{ℕ, ◌+◌, ◌*◌, ◌/◌, ◌%◌, ◌^◌, ◌≤◌, ◌<◌}
@@ -24,7 +24,7 @@ use Rattle.puts.proofs.Pieces.{both_to, both_in, same_to, same_left, second_fits
 use Rattle.big_endian.specs.Big.{big2, big4, big_of}
 use Rattle.big_endian.proofs.Big.{length_big2, length_big4}
 use Rattle.binary_codes.specs.Codes.{binary_code}
-use Rattle.binary_puts.specs.Bytes.{int32_bytes, truth_byte, field_bytes, items_bytes, pairs_bytes, string_bytes, message_bytes}
+use Rattle.binary_puts.specs.Bytes.{truth_byte, field_bytes, items_bytes, pairs_bytes, string_bytes, message_bytes}
 
 pub truth_one : (b : Bool) → b ≡ true → 1 ≡ truth_byte b
 unfolding truth_byte

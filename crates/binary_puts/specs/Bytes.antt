@@ -1,6 +1,6 @@
 -- The bytes that headers and scalars are written as: the binary protocol document, its strict encoding, as the scope paper reads it. What is wrong with a
 -- call's arguments is as for the compact protocol (crate puts, Wrong). Assumes nothing: these are definitions.
-use Rattle.std.specs.Prelude.{ℕ, Bool, true, false, cond, List, [], ◌∷◌, ◌++◌, length, eqb, ℤ}
+use Rattle.std.specs.Prelude.{ℕ, Bool, true, false, cond, List, ◌∷◌, ◌++◌, length, eqb, ℤ}
 use Rattle.std.specs.Int.{w16, w32, w64}
 use Rattle.std.proofs.Common.{of_z}
 use Rattle.types.specs.Codes.{message_code}

@@ -1,10 +1,8 @@
 -- Skip of the values that hold others: what the code knows at each return and at each turn of its loops. Assumes nothing.
 use mathlib.Core.Path.{◌≡◌, refl, sym, ap, ap₂, ◌∙◌}
 use mathlib.Core.Bool.{Bool, true, false}
-use mathlib.Core.List.{List, [], ◌∷◌}
-use Prim.Native.Nat.{ℕ, zero, suc, ◌+◌, ◌-◌, ◌*◌, ◌≤◌, ◌<◌}
-use native.Mathlib.Nat.{not-suc-le-zero}
-use native.Mathlib.Numerals.{sub-one}
+use mathlib.Core.List.{List, []}
+use Prim.Native.Nat.{ℕ, zero, suc, ◌-◌, ◌*◌, ◌≤◌, ◌<◌}
 use native.Mathlib.Omega.{arith}
 use lib.ListN.{length, drop, length-drop}
 use lib.IntN.{ℤ, pos}
@@ -17,7 +15,7 @@ use Rattle.types.specs.declared.TConfiguration.{TConfiguration}
 use Rattle.types.specs.Value as val
 use Rattle.types.specs.Value.{Tree, Trees, Pairs}
 use Rattle.numbers.specs.Varint.{Found, got, refused, placed}
-use Rattle.heads.specs.Reader.{Reader, done, refuse, and_then, provided, some, read_at}
+use Rattle.heads.specs.Reader.{Reader, done, and_then, provided, some, read_at}
 use Rattle.heads.specs.Heads.{Field, stop, bool, value}
 use Rattle.heads.specs.Answers.{place, id_of, to_list, to_map, to_field}
 use Rattle.heads.specs.declared.ListHead.{ListHead}
@@ -26,15 +24,15 @@ use Rattle.heads.specs.declared.MapHead.{MapHead}
 use Rattle.heads.specs.declared.MapHead.TheVariants as M
 use Rattle.heads.specs.declared.FieldHead.{FieldHead}
 use Rattle.heads.specs.declared.FieldHead.TheVariants as F
-use Rattle.heads.proofs.Lawful.{Lawful, not_both}
+use Rattle.heads.proofs.Lawful.{Lawful}
 use Rattle.heads.proofs.Steps.{found_at, lost_at}
 use Rattle.skip.specs.Walk.{Entry, with_size, sizing, behind}
-use Rattle.skip.specs.Value.{many, many_pairs, fields_of, startable}
+use Rattle.skip.specs.Value.{many, many_pairs, startable}
 use Rattle.skip.specs.Skip.{passed, past}
 use Rattle.skip.specs.Leaves.{is_leaf}
 use Rattle.skip.specs.declared.Skipped.{Skipped}
 use Rattle.skip.specs.declared.Skipped.TheVariants.{Done, Refused}
-use Rattle.skip.proofs.Past.{done_refused, read_past, refused_past, past_got, past_no, past_step, past_stop, past_made, past_yes, past_not, past_refuse, past_done, pos_suc}
+use Rattle.skip.proofs.Past.{read_past, refused_past, past_step, past_stop, past_made, past_yes, past_not, past_done, pos_suc}
 use Rattle.binary_codes.specs.Codes.{least_size}
 use Rattle.protocols.specs.Words.{items_head, pairs_head}
 use Rattle.protocols.specs.Value.{walk_by, fields_by, roomy_by, value_by}

@@ -1,11 +1,8 @@
 -- Skip of the values that hold no other, at each return. Assumes nothing.
 use mathlib.Core.Path.{◌≡◌, refl, sym, ap, ◌∙◌}
-use mathlib.Core.Bool.{Bool, true, false}
+use mathlib.Core.Bool.{Bool, true}
 use mathlib.Core.List.{List}
-use Prim.Native.Nat.{ℕ, zero, suc, ◌+◌, ◌*◌, ◌≤◌, ◌<◌}
-use native.Mathlib.Omega.{arith}
-use lib.ListN.{length}
-use lib.IntN.{ℤ}
+use Prim.Native.Nat.{ℕ, ◌*◌}
 use Rattle.types.specs.Refusals.{BAD_TYPE, DEPTH}
 use Rattle.types.specs.declared.Place.{Place}
 use Rattle.types.specs.declared.TType.{TType}
@@ -14,14 +11,14 @@ use Rattle.types.specs.declared.TConfiguration.{TConfiguration}
 use Rattle.types.specs.Value.{Tree}
 use Rattle.numbers.specs.Varint.{Found, got, refused}
 use Rattle.heads.specs.Reader.{Reader, some, read_at}
-use Rattle.heads.specs.Answers.{place, to_bool, to_part}
+use Rattle.heads.specs.Answers.{to_bool, to_part}
 use Rattle.heads.specs.declared.BoolRead.{BoolRead}
 use Rattle.heads.specs.declared.BoolRead.TheVariants as B
 use Rattle.heads.specs.declared.PartRead.{PartRead}
 use Rattle.heads.specs.declared.PartRead.TheVariants as P
 use Rattle.skip.specs.Value.{many}
 use Rattle.skip.specs.Skip.{passed, past}
-use Rattle.skip.specs.Leaves.{is_leaf, times}
+use Rattle.skip.specs.Leaves.{is_leaf}
 use Rattle.skip.specs.declared.Skipped.{Skipped}
 use Rattle.skip.specs.declared.Skipped.TheVariants.{Done, Refused}
 use Rattle.skip.proofs.Past.{past_made, past_refuse}

@@ -1,8 +1,7 @@
 -- The binary protocol's headers and values on small inputs, computed. Assumes nothing.
 use mathlib.Core.Path.{◌≡◌, refl}
 use mathlib.Core.Bool.{true}
-use mathlib.Core.List.{List, [], ◌∷◌, reverse}
-use Prim.Native.Nat.{ℕ, zero, suc}
+use mathlib.Core.List.{[], ◌∷◌}
 use lib.ListN.{replicate}
 use lib.IntN.{pos, negsuc}
 use Rattle.types.specs.Refusals.{END, BAD_VERSION, BAD_MESSAGE_TYPE, BAD_TYPE, BAD_BOOL, SIZE_LIMIT, NEGATIVE_SIZE, DEPTH, BAD_UTF8}

@@ -1,32 +1,30 @@
 -- The cases of the code, one for each answer and each turn of a loop, for `search`. Assumes nothing.
-use mathlib.Core.Path.{◌≡◌, refl, sym, ap, subst, subst⁻¹, ◌∙◌}
-use mathlib.Core.Bool.{Bool, true, false, cond, ◌&&◌}
-use mathlib.Core.List.{List, [], ◌∷◌, ◌++◌}
-use Prim.Native.Nat.{ℕ, zero, suc, ◌+◌, ◌-◌, ◌*◌, ◌/◌, ◌%◌, ◌^◌, ◌≤◌, ◌<◌}
+use mathlib.Core.Path.{◌≡◌, refl, sym, ap, subst, ◌∙◌}
+use mathlib.Core.Bool.{Bool, true, false, ◌&&◌}
+use mathlib.Core.List.{List, []}
+use Prim.Native.Nat.{ℕ, ◌+◌, ◌-◌, ◌*◌, ◌/◌, ◌%◌, ◌^◌, ◌≤◌, ◌<◌}
 use native.Mathlib.Omega.{arith}
-use native.Mathlib.Nat.{add-zero, add-suc}
 use native.Mathlib.Numerals.{add-one}
-use borrow.Author.Tests.{lt-ltb, le-ltb, le-leb, lt-leb, eq-eqb, ne_eqb, ltb-true, leb-true, eqb-true}
+use borrow.Author.Tests.{lt-ltb, le-ltb, le-leb, lt-leb, leb-true}
 use lib.Dec.{eqb, leb, ltb, lit<}
 use lib.ListN.{length, get_or, take, drop, drop_of_length-le}
 use lib.Seq.{sets, slice, drop-cons}
 use mir.Syntax.{w32, w64}
 use mir.Val.{Fits}
 use Rattle.numbers.proofs.Found.{by_lt, zero_one, take_drop}
-use Rattle.numbers.specs.Fixed.{little, little_of, four}
+use Rattle.numbers.specs.Fixed.{four}
 use Rattle.numbers.specs.Answers.{bits32_at, put_at}
 use Rattle.numbers.specs.declared.Bits32.{Bits32}
 use Rattle.numbers.specs.declared.Bits32.TheVariants as B32
 use Rattle.numbers.proofs.Put.{put_in}
 use Rattle.numbers.proofs.Cases.{length_four}
-use Rattle.types.specs.Refusals.{BAD_DAY}
-use Rattle.days.specs.Day.{number, Day, rises, accepted, check_of, message_of, part_of}
+use Rattle.days.specs.Day.{number, Day, accepted, check_of, message_of, part_of}
 use Rattle.days.specs.Write.{up_to, fitting}
 use Rattle.days.specs.declared.Checked.{Checked}
 use Rattle.days.specs.declared.Checked.TheVariants as C
 use Rattle.days.specs.declared.Part.{Part}
 use Rattle.days.specs.declared.Part.TheVariants as P
-use Rattle.days.proofs.Rules.{no_true, by_bool, and_none, and_both, and_left, and_right, is_day, day_is, rises_to, within}
+use Rattle.days.proofs.Rules.{by_bool, and_left, and_right, is_day, day_is, within}
 
 -- a number of the header, read: its four bytes are there
 module _ (s : List ℕ) (k : ℕ) (r : Bits32) (e : r ≡ bits32_at s (4 * k)) (h : 4 * k + 4 ≤ length s) where

@@ -1,18 +1,17 @@
 -- The messages cut from one slice by their ends: their file is the header made of the ends, then the slice. Assumes nothing.
-use mathlib.Core.Path.{◌≡◌, refl, sym, ap, ap₂, subst, subst⁻¹, ◌∙◌}
-use mathlib.Core.Bool.{Bool, true, false, cond, ◌&&◌}
-use mathlib.Core.List.{List, [], ◌∷◌, ◌++◌, append_assoc}
-use Prim.Native.Nat.{ℕ, zero, suc, ◌+◌, ◌-◌, ◌*◌, ◌^◌, ◌≤◌, ◌<◌}
+use mathlib.Core.Path.{◌≡◌, refl, sym, ap, ap₂, ◌∙◌}
+use mathlib.Core.Bool.{true}
+use mathlib.Core.List.{List, [], ◌∷◌, ◌++◌}
+use Prim.Native.Nat.{ℕ, zero, suc, ◌+◌, ◌-◌, ◌*◌, ◌≤◌, ◌<◌}
 use native.Mathlib.Omega.{arith}
-use native.Mathlib.Nat.{add-zero}
-use borrow.Author.Tests.{lt-ltb, ltb-true, leb-true, eqb-true, eq-eqb}
-use lib.Dec.{eqb, leb, ltb}
+use borrow.Author.Tests.{lt-ltb, ltb-true, eqb-true, eq-eqb}
+use lib.Dec.{ltb}
 use lib.ListN.{length, get_or, take, drop, drop_of_length-le, length-append, take-append-drop}
-use lib.Seq.{slice, length-slice, drop-drop, drop-length}
+use lib.Seq.{slice, length-slice, drop-drop}
 use Rattle.numbers.specs.Fixed.{four}
 use Rattle.numbers.proofs.Found.{take_drop}
 use Rattle.days.specs.Day.{words, joined, starts, day_of}
-use Rattle.days.specs.Write.{cut, up_to, fitting, moved, header_of}
+use Rattle.days.specs.Write.{cut, up_to, moved, header_of}
 use Rattle.days.proofs.Rules.{and_left, and_right, and_both}
 
 pub length_four : (n : ℕ) → length (four n) ≡ 4

@@ -1,18 +1,18 @@
 -- Files and lists of messages: accepted are exactly the files of fair lists; a list has one file and a file one list; message k is the k-th. Assumes nothing.
-use mathlib.Core.Path.{◌≡◌, refl, sym, ap, ap₂, subst, subst⁻¹, ◌∙◌}
-use mathlib.Core.Bool.{Bool, true, false}
+use mathlib.Core.Path.{◌≡◌, refl, sym, ap, ap₂, subst⁻¹, ◌∙◌}
+use mathlib.Core.Bool.{true}
 use mathlib.Core.List.{List, [], ◌∷◌, ◌++◌, append_assoc}
 use mathlib.Core.Logic.{◌↔◌}
-use Prim.Native.Nat.{ℕ, zero, suc, ◌+◌, ◌-◌, ◌*◌, ◌^◌, ◌≤◌, ◌<◌}
+use Prim.Native.Nat.{ℕ, zero, suc, ◌+◌, ◌*◌, ◌≤◌, ◌<◌}
 use native.Mathlib.Omega.{arith}
 use native.Mathlib.Nat.{add-zero}
 use native.Mathlib.Numerals.{add-one}
 use borrow.Author.Tests.{lt-ltb, le-ltb}
-use lib.ListN.{length, get_or, take, drop, length-append}
+use lib.ListN.{length, get_or, length-append}
 use lib.Seq.{slice, length-slice, slice_empty, ext_get_or}
-use Rattle.numbers.proofs.Found.{Bytes, by_lt}
+use Rattle.numbers.proofs.Found.{Bytes}
 use Rattle.types.specs.Refusals.{BAD_DAY}
-use Rattle.days.specs.Day.{number, words, joined, starts, day_of, Day, accepted, check_of, message_of, part_of}
+use Rattle.days.specs.Day.{number, words, joined, starts, day_of, Day, accepted, message_of, part_of}
 use Rattle.days.specs.Lists.{Fair, parts, messages_of}
 use Rattle.days.specs.declared.Part.TheVariants as P
 use Rattle.days.proofs.Rules.{is_day, day_is, rises_to, within}

@@ -1,10 +1,10 @@
 -- The header's numbers, and parts of a list. Assumes nothing.
-use mathlib.Core.Path.{◌≡◌, refl, sym, ap, ap₂, subst, subst⁻¹, ◌∙◌}
+use mathlib.Core.Path.{◌≡◌, refl, sym, ap, ◌∙◌}
 use mathlib.Core.List.{List, [], ◌∷◌, ◌++◌, append_assoc}
-use Prim.Native.Nat.{ℕ, zero, suc, ◌+◌, ◌-◌, ◌*◌, ◌^◌, ◌≤◌, ◌<◌}
+use Prim.Native.Nat.{ℕ, zero, suc, ◌+◌, ◌*◌, ◌^◌, ◌≤◌, ◌<◌}
 use native.Mathlib.Omega.{arith}
-use native.Mathlib.Nat.{add-zero, zero-add}
-use lib.ListN.{length, get_or, take, drop, length-append, take-append-drop}
+use native.Mathlib.Nat.{add-zero}
+use lib.ListN.{length, get_or, take, drop}
 use lib.Seq.{slice, length-slice, take_at, take-take, take_all, take-append-add, drop-append-add, slice_empty}
 use Rattle.numbers.specs.Fixed.{little, little_of, four}
 use Rattle.numbers.proofs.Found.{Bytes}

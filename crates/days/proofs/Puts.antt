@@ -1,11 +1,10 @@
 -- The cases of the writers. Assumes nothing.
-use mathlib.Core.Path.{◌≡◌, refl, sym, ap, ap₂, subst, subst⁻¹, ◌∙◌}
-use mathlib.Core.Bool.{Bool, true, false, cond, ◌&&◌}
+use mathlib.Core.Path.{◌≡◌, sym, ap, ◌∙◌}
+use mathlib.Core.Bool.{Bool, true, false}
 use mathlib.Core.List.{List, [], ◌∷◌, ◌++◌}
-use Prim.Native.Nat.{ℕ, zero, suc, ◌+◌, ◌-◌, ◌*◌, ◌^◌, ◌≤◌, ◌<◌}
+use Prim.Native.Nat.{ℕ, ◌+◌, ◌*◌, ◌≤◌, ◌<◌}
 use native.Mathlib.Omega.{arith}
 use native.Mathlib.Numerals.{add-one}
-use native.Mathlib.Nat.{zero-add}
 use lib.ListN.{length, get_or, drop, drop_of_length-le, length-append}
 use lib.Seq.{sets, length-sets, drop-cons}
 use mir.Syntax.{w64}
@@ -16,7 +15,7 @@ use Rattle.numbers.specs.declared.Wrote.{Wrote}
 use Rattle.numbers.specs.declared.Wrote.TheVariants as W
 use Rattle.numbers.proofs.Put.{Storing, storing, sets_append, wrote_to, wrote_not, put_in, put_not}
 use Rattle.days.specs.Day.{words, day_of}
-use Rattle.days.specs.Write.{cut, up_to, fitting, moved, header_of, day_wrote, day_put}
+use Rattle.days.specs.Write.{cut, fitting, moved, header_of, day_wrote, day_put}
 use Rattle.days.proofs.Cases.{Fitting, fits_is}
 use Rattle.days.proofs.Ends.{length_four, length_words, length_moved, length_header, up_below, day_ends}
 

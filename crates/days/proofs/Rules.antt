@@ -1,20 +1,15 @@
 -- The test is the rules: a file is accepted exactly where they hold. Assumes nothing.
-use mathlib.Core.Path.{◌≡◌, refl, sym, ap, subst, subst⁻¹, ◌∙◌}
-use mathlib.Core.Bool.{Bool, true, false, cond, ◌&&◌}
-use mathlib.Core.List.{List, [], ◌∷◌, ◌++◌}
+use mathlib.Core.Path.{◌≡◌, refl, subst}
+use mathlib.Core.Bool.{Bool, true, false, ◌&&◌}
+use mathlib.Core.List.{List}
 use mathlib.Core.Logic.{◌↔◌}
-use Prim.Native.Nat.{ℕ, zero, suc, ◌+◌, ◌-◌, ◌*◌, ◌^◌, ◌≤◌, ◌<◌}
+use Prim.Native.Nat.{ℕ, zero, suc, ◌+◌, ◌-◌, ◌*◌, ◌≤◌, ◌<◌}
 use native.Mathlib.Omega.{arith}
-use native.Mathlib.Nat.{add-zero, add-suc}
-use native.Mathlib.Numerals.{add-one}
-use borrow.Author.Tests.{lt-ltb, le-ltb, le-leb, lt-leb, eq-eqb, ne_eqb, ltb-true, leb-true, eqb-true}
+use native.Mathlib.Nat.{add-zero}
+use borrow.Author.Tests.{lt-ltb, le-leb, eq-eqb, ltb-true, leb-true, eqb-true}
 use lib.Dec.{eqb, leb, ltb}
 use lib.ListN.{length}
-use Rattle.numbers.proofs.Found.{by_lt, zero_one}
-use Rattle.types.specs.Refusals.{BAD_DAY}
-use Rattle.days.specs.Day.{number, Day, rises, accepted, check_of, message_of}
-use Rattle.days.specs.declared.Checked.{Checked}
-use Rattle.days.specs.declared.Checked.TheVariants as C
+use Rattle.days.specs.Day.{number, Day, rises, accepted}
 
 pub no_true : {X : Type 0} → false ≡ true → X
 no_true {X} e = absurd (subst F e tt)

@@ -1,19 +1,16 @@
 -- The writer: it refuses exactly the lists that are not fair, what it writes is the list's file, and a refusal leaves the output. Assumes nothing.
 use mathlib.Core.Path.{◌≡◌, refl, sym, ap, ap₂, subst, subst⁻¹, ◌∙◌}
-use mathlib.Core.Bool.{Bool, true, false}
+use mathlib.Core.Bool.{true}
 use mathlib.Core.List.{List, [], ◌∷◌, ◌++◌, append_assoc}
 use mathlib.Core.Logic.{◌↔◌}
-use Prim.Native.Nat.{ℕ, zero, suc, ◌+◌, ◌-◌, ◌*◌, ◌^◌, ◌≤◌, ◌<◌}
+use Prim.Native.Nat.{ℕ, zero, suc, ◌+◌, ◌≤◌, ◌<◌}
 use native.Mathlib.Omega.{arith}
-use native.Mathlib.Nat.{add-zero, zero-add}
 use lib.ListN.{length, get_or, take, drop, length-append}
 use lib.Seq.{slice, length-slice, take_at, drop_at}
-use Rattle.types.specs.Refusals.{NO_ROOM}
 use Rattle.numbers.specs.Answers.{wrote_at, put_at}
-use Rattle.numbers.specs.declared.Wrote.{Wrote}
 use Rattle.numbers.specs.declared.Wrote.TheVariants as W
 use Rattle.numbers.proofs.Found.{zero_one}
-use Rattle.numbers.proofs.Put.{to_end, to_room, refused_kept, refused_why, put_drop}
+use Rattle.numbers.proofs.Put.{to_end, to_room, refused_kept, put_drop}
 use Rattle.types.specs.Refusals.{BAD_DAY}
 use Rattle.days.specs.Day.{joined, day_of, check_of, message_of, part_of}
 use Rattle.days.specs.declared.Checked.TheVariants as C
@@ -21,7 +18,7 @@ use Rattle.days.specs.declared.Part.TheVariants as P
 use Rattle.days.specs.Lists.{Fair, ends_of}
 use Rattle.days.specs.Write.{cut, up_to, fitting, day_wrote, day_put}
 use Rattle.days.proofs.Rules.{by_bool, day_is}
-use Rattle.days.proofs.Cases.{Fitting, fits_is, fit_rest}
+use Rattle.days.proofs.Cases.{fits_is, fit_rest}
 use Rattle.days.proofs.Ends.{up_first, up_rest, up_all, up_cons, up_nil, length_cut, joined_cut}
 use Rattle.days.proofs.Numbers.{slice_middle}
 use Rattle.days.proofs.Files.{length_day, count_is, day_of_lem, message_is, message_none}

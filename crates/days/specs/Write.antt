@@ -1,5 +1,5 @@
 -- What the writer answers and leaves. It is given the messages one behind the other, with where each ends. Assumes nothing: these are definitions.
-use Rattle.std.specs.Prelude.{ℕ, zero, suc, ◌+◌, ◌*◌, Bool, true, false, cond, ◌&&◌, List, [], ◌∷◌, ◌++◌, length, eqb, leb, ltb}
+use Rattle.std.specs.Prelude.{ℕ, ◌+◌, ◌*◌, Bool, cond, ◌&&◌, List, [], ◌∷◌, length, eqb, leb, ltb}
 use Rattle.std.proofs.Math.Seq.{slice}
 use Rattle.numbers.specs.Answers.{wrote_at, put_at}
 use Rattle.numbers.specs.declared.Wrote.{Wrote}

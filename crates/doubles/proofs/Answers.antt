@@ -4,40 +4,35 @@ use borrow.Author.Rules.{sfits_of}
 use borrow.Author.Tests.{lt-leb}
 use lib.Seq.{sets}
 use Rattle.types.specs.Refusals.{NO_ROOM}
-use Rattle.types.specs.declared.Place.{Place}
 use Rattle.types.specs.declared.TConfiguration.{TConfiguration}
 use Rattle.types.specs.declared.TType.TheVariants as T
 use Rattle.types.specs.Value.{Tree}
 use Rattle.numbers.specs.Varint.{Found, got, refused}
-use Rattle.numbers.specs.Answers.{put_at}
 use Rattle.numbers.proofs.Put.{put_in, put_not}
 use Rattle.heads.specs.Reader.{missed, read_at, read_to}
 use Rattle.heads.proofs.Steps.{found_at}
-use Rattle.input.specs.State.{State, cut_of, moved_to, gate}
-use Rattle.input.specs.Outcome.{Said, says, refuses, Outcome, answers, declines, from, stays}
+use Rattle.input.specs.State.{State, cut_of}
+use Rattle.input.specs.Outcome.{Said, says, refuses, Outcome, from, stays}
 use Rattle.input.proofs.Cases.{cut_inside, cut_counts}
 use Rattle.input.proofs.Gate.{is_sound, Gated, bad, turn, through, gated}
 use Rattle.skip.specs.Value.{value_of}
 use Rattle.skip.specs.Skip.{room_of}
 use Rattle.skip.proofs.Lawfuls.{value_lawful}
 use Rattle.single.specs.Held.{held}
-use Rattle.single.specs.Counts.{counted, counted_all, how_many}
-use Rattle.single.specs.declared.Single.TheVariants.{Yes, No, NotANumber}
+use Rattle.single.specs.Counts.{counted, counted_all}
 use Rattle.single.specs.declared.Counts.{Counts}
 use Rattle.single.proofs.Counting.{plain, together}
 use Rattle.doubles.specs.Doubles.{doubles_of}
 use Rattle.doubles.specs.Walked.{code, total, Sheet, jotted, jot_all, Walks}
-use Rattle.doubles.specs.Calls.{ahead, on_struct, none, counts_of, to_counts, as_counts, counts_call, codes_of, declines_row, to_row, row_call, in_row, answered_row}
+use Rattle.doubles.specs.Calls.{ahead, on_struct, none, counts_of, to_counts, counts_call, codes_of, declines_row, to_row, row_call, in_row, answered_row}
 use Rattle.doubles.specs.declared.Walked.{Walked}
 use Rattle.doubles.specs.declared.Walked.TheVariants.{Done, Refused}
-use Rattle.doubles.specs.declared.CountsAnswer.{CountsAnswer}
 use Rattle.doubles.specs.declared.CountsAnswer.TheVariants as C
 use Rattle.doubles.specs.declared.ReadCounts.{ReadCounts}
 use Rattle.doubles.specs.declared.RowAnswer.TheVariants as R
 use Rattle.doubles.specs.declared.ReadRow.{ReadRow}
-use Rattle.doubles.proofs.Sheets.{not_done, was_got, was_lost}
 use Rattle.doubles.proofs.Call.{on_tree_lem, on_no}
-use Rattle.doubles.proofs.Few.{few, later}
+use Rattle.doubles.proofs.Few.{few}
 
 pub codes_length : (ns : List ℕ) → length (codes_of ns) ≡ length ns
 unfolding codes_of

@@ -5,15 +5,15 @@ use Rattle.types.specs.declared.Place.{Place}
 use Rattle.types.specs.declared.TType.TheVariants as T
 use Rattle.types.specs.Value.{Tree}
 use Rattle.numbers.specs.Varint.{Found, got, refused}
-use Rattle.heads.specs.Reader.{missing, missed, read_at, read_to}
+use Rattle.heads.specs.Reader.{missing, missed, read_at}
 use Rattle.heads.proofs.Cut.{cut_is}
 use Rattle.input.specs.State.{State, cut_of, moved_to, gate}
-use Rattle.input.specs.Outcome.{Said, says, refuses, Outcome, answers, declines, from, stays}
+use Rattle.input.specs.Outcome.{answers, declines, from, stays}
 use Rattle.input.proofs.Cases.{cut_inside, cut_counts}
 use Rattle.input.proofs.Gate.{is_sound, Gated, bad, turn, through, gated}
 use Rattle.skip.specs.Value.{value_of}
 use Rattle.skip.specs.Skip.{room_of}
-use Rattle.single.specs.Counts.{counted, counted_all}
+use Rattle.single.specs.Counts.{counted_all}
 use Rattle.single.specs.declared.Counts.{Counts}
 use Rattle.doubles.specs.Doubles.{doubles_of}
 use Rattle.doubles.specs.Walked.{Sheet, jotted, jot_all, Walks}

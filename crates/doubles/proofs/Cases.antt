@@ -30,7 +30,7 @@ use Rattle.heads.proofs.Lawful.{not_both}
 use Rattle.heads.proofs.Steps.{found_at, step, stop_at, done_at, byte_at, refuse_at, provided_yes, provided_no, split}
 use Rattle.heads.proofs.Fields.{code_sum, id_wide, id_fits, id_back, id_is, high_four, delta_wide}
 use Rattle.skip.specs.Walk.{Entry, with_size, sizing, behind, fields}
-use Rattle.skip.specs.Value.{many, many_pairs, fields_of, startable, shut, roomy, shaped, value_of}
+use Rattle.skip.specs.Value.{many, many_pairs, fields_of, startable, value_of}
 use Rattle.skip.specs.Skip.{passed, past, skip_of}
 use Rattle.skip.specs.Leaves.{is_leaf}
 use Rattle.skip.specs.declared.Skipped.{Skipped}

@@ -1,13 +1,13 @@
 -- A value has no more doubles than bytes. Assumes nothing.
-use Rattle.std.proofs.Common.{◌≡◌, ℕ, zero, suc, ◌+◌, ◌≤◌, Bool, true, false, cond, leb, List, [], ◌∷◌, ◌++◌, length, take, drop, ℤ, pos, sym, refl, ap, ◌∙◌, arith, length-append}
+use Rattle.std.proofs.Common.{◌≡◌, ℕ, zero, suc, ◌+◌, ◌≤◌, Bool, true, false, cond, leb, List, [], ◌++◌, length, take, drop, ℤ, pos, sym, refl, ap, ◌∙◌, arith, length-append}
 use Rattle.types.specs.Refusals.{END, BAD_TYPE}
 use Rattle.types.specs.declared.TType.{TType}
 use Rattle.types.specs.declared.TType.TheVariants as T
 use Rattle.types.specs.declared.TConfiguration.{TConfiguration}
 use Rattle.types.specs.Value as val
 use Rattle.types.specs.Value.{Tree, Trees, no_trees, tree, Pairs, no_pairs, pair}
-use Rattle.numbers.specs.Varint.{Found, got, refused, placed}
-use Rattle.heads.specs.Reader.{Reader, done, refuse, and_then, provided, some, read_at}
+use Rattle.numbers.specs.Varint.{got, refused, placed}
+use Rattle.heads.specs.Reader.{Reader, done, and_then, provided, some, read_at}
 use Rattle.heads.specs.Heads.{double, items_head, pairs_head, Field, stop, bool, value, field}
 use Rattle.heads.proofs.Lawful.{not_both}
 use Rattle.heads.proofs.Steps.{found_at, done_at, refuse_at, split}

@@ -1,10 +1,8 @@
 -- What a walk leaves, put together from what its parts leave. Assumes nothing.
-use Rattle.std.proofs.Common.{◌≡◌, ℕ, suc, ◌-◌, ◌<◌, ◌≤◌, List, [], ◌∷◌, ◌++◌, sym, refl, ap, ◌∙◌, subst, ap₂, arith}
+use Rattle.std.proofs.Common.{◌≡◌, ℕ, List, [], ◌∷◌, ◌++◌, sym, refl, ap, ◌∙◌, subst, arith}
 use Rattle.types.specs.declared.Place.{Place}
 use Rattle.numbers.specs.Varint.{Found, got, refused}
 use Rattle.heads.specs.Reader.{Reader, done, and_then, read_at}
-use Rattle.heads.specs.Answers.{place}
-use Rattle.heads.proofs.Lawful.{not_both}
 use Rattle.heads.proofs.Steps.{step, stop_at, done_at}
 use Rattle.single.specs.declared.Counts.{Counts}
 use Rattle.doubles.specs.Walked.{Sheet, jotted, jot_all, Walks}

@@ -1,12 +1,12 @@
 -- What the calls mean: they accept, refuse and move the reader as skip does; the three counts together are the doubles of the tree. Assumes nothing.
-use Rattle.std.proofs.Common.{◌≡◌, ℕ, ◌+◌, ◌^◌, ◌<◌, Bool, true, false, cond, List, length, sym, refl, ap, ◌∙◌, arith}
+use Rattle.std.proofs.Common.{◌≡◌, ℕ, ◌+◌, ◌^◌, ◌<◌, true, List, length, sym, refl, ap, ◌∙◌, arith}
 use Rattle.types.specs.Codes.{type_code}
 use Rattle.types.specs.declared.TType.TheVariants as T
 use Rattle.types.specs.Value.{Tree}
 use Rattle.numbers.specs.Varint.{Found, got, refused}
 use Rattle.heads.specs.Reader.{read_to}
 use Rattle.input.specs.State.{State, cut_of, waits}
-use Rattle.input.specs.Outcome.{Said, says, refuses, Outcome, from, stays}
+use Rattle.input.specs.Outcome.{says, refuses, Outcome, from, stays}
 use Rattle.input.specs.Answers.{as_done}
 use Rattle.input.specs.declared.Awaited.{Awaited}
 use Rattle.input.specs.declared.Awaited.TheVariants as W
@@ -17,7 +17,7 @@ use Rattle.input.proofs.Gate.{Gated, bad, turn, through, gated}
 use Rattle.skip.specs.Value.{value_of}
 use Rattle.skip.specs.Skip.{passed, skip_to, over, room_of, awaited, skips, skip_call}
 use Rattle.skip.proofs.Call.{nothing_waits}
-use Rattle.single.specs.Counts.{counted_all, how_many}
+use Rattle.single.specs.Counts.{how_many}
 use Rattle.single.specs.declared.Single.TheVariants.{Yes, No, NotANumber}
 use Rattle.single.specs.declared.Counts.{Counts}
 use Rattle.single.proofs.Counting.{plain, together}

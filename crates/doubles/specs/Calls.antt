@@ -17,7 +17,6 @@ use Rattle.doubles.specs.Walked.{code}
 use Rattle.doubles.specs.declared.CountsAnswer.{CountsAnswer}
 use Rattle.doubles.specs.declared.CountsAnswer.TheVariants as C
 use Rattle.doubles.specs.declared.ReadCounts.{ReadCounts}
-use Rattle.doubles.specs.declared.RowAnswer.{RowAnswer}
 use Rattle.doubles.specs.declared.RowAnswer.TheVariants as R
 use Rattle.doubles.specs.declared.ReadRow.{ReadRow}
 

@@ -209,7 +209,7 @@ fn walk_past(
 }
 
 // A value, with `room` levels left.
-#[cycle(walk_list_walk_many_walk_map_walk_pair_walk_pairs_walk_struct_walk_value)]
+#[cycle(walks)]
 pub(crate) fn walk_value(
     s: &[u8],
     at: Place,
@@ -245,7 +245,7 @@ pub(crate) fn walk_value(
 }
 
 // A list or a set. One whose elements hold no double is passed over whole; so is one of the type Stop, of which there are none.
-#[cycle(walk_list_walk_many_walk_map_walk_pair_walk_pairs_walk_struct_walk_value)]
+#[cycle(walks)]
 fn walk_list(
     s: &[u8],
     at: Place,
@@ -272,7 +272,7 @@ fn walk_list(
 }
 
 // So many values of a type.
-#[cycle(walk_list_walk_many_walk_map_walk_pair_walk_pairs_walk_struct_walk_value)]
+#[cycle(walks)]
 fn walk_many(
     s: &[u8],
     at: Place,
@@ -304,7 +304,7 @@ fn walk_many(
 }
 
 // A map. One whose keys and values hold no double is passed over whole.
-#[cycle(walk_list_walk_many_walk_map_walk_pair_walk_pairs_walk_struct_walk_value)]
+#[cycle(walks)]
 fn walk_map(
     s: &[u8],
     at: Place,
@@ -334,7 +334,7 @@ fn walk_map(
 }
 
 // So many keys, each with its value.
-#[cycle(walk_list_walk_many_walk_map_walk_pair_walk_pairs_walk_struct_walk_value)]
+#[cycle(walks)]
 fn walk_pairs(
     s: &[u8],
     at: Place,
@@ -367,7 +367,7 @@ fn walk_pairs(
 }
 
 // A key, and its value.
-#[cycle(walk_list_walk_many_walk_map_walk_pair_walk_pairs_walk_struct_walk_value)]
+#[cycle(walks)]
 fn walk_pair(
     s: &[u8],
     at: Place,
@@ -387,7 +387,7 @@ fn walk_pair(
 }
 
 // A struct that has been entered: its fields up to the stop. Its ids begin anew.
-#[cycle(walk_list_walk_many_walk_map_walk_pair_walk_pairs_walk_struct_walk_value)]
+#[cycle(walks)]
 fn walk_struct(
     s: &[u8],
     at: Place,

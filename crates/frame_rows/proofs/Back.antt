@@ -1,13 +1,13 @@
 -- A state that is put into a row is read back from it. Assumes nothing.
 use mathlib.Core.Path.{◌≡◌, refl, sym, ap, ap₂, subst, ◌∙◌}
-use mathlib.Core.Bool.{Bool, true, false, cond}
-use mathlib.Core.List.{List, [], ◌∷◌}
-use Prim.Native.Nat.{ℕ, zero, suc, ◌+◌, ◌-◌, ◌*◌, ◌%◌, ◌≤◌, ◌<◌}
+use mathlib.Core.Bool.{Bool, true, cond}
+use mathlib.Core.List.{List, ◌∷◌}
+use Prim.Native.Nat.{ℕ, zero, suc, ◌+◌, ◌*◌, ◌%◌, ◌≤◌, ◌<◌}
 use native.Mathlib.Omega.{arith}
 use native.Mathlib.Decide.{dec_lt}
-use borrow.Author.Tests.{lt-ltb, le-ltb, le-leb, eq-eqb, ne_eqb}
-use lib.Dec.{eqb, leb, ltb}
-use lib.ListN.{length, get_or, set, replicate, length-set, length-replicate}
+use borrow.Author.Tests.{lt-ltb, le-ltb, le-leb, eq-eqb}
+use lib.Dec.{ltb}
+use lib.ListN.{length, get_or, set, length-set, length-replicate}
 use lib.Seq.{get_or-set_same, get_or-set_other}
 use lib.IntN.{ℤ, pos}
 use mir.Syntax.{w16}
@@ -17,9 +17,8 @@ use Rattle.types.specs.Codes.{type_by_number, type_code}
 use Rattle.types.specs.declared.TType.{TType}
 use Rattle.types.specs.declared.TType.TheVariants as T
 use Rattle.types.specs.declared.TypeRead.TheVariants as R
-use Rattle.types.specs.declared.TConfiguration.{TConfiguration}
 use Rattle.heads.specs.Answers.{id_of}
-use Rattle.rows.specs.Row.{last_in, limits_of}
+use Rattle.rows.specs.Row.{limits_of}
 use Rattle.frame.specs.declared.Nest.{Nest}
 use Rattle.frame.specs.declared.Nest.TheVariants.{Fields, Items, Keys, Values}
 use Rattle.frame.specs.declared.Level.{Level}
@@ -31,15 +30,14 @@ use Rattle.frame.specs.declared.Wait.TheVariants as W
 use Rattle.frame.specs.declared.Now.{Now}
 use Rattle.frame.specs.declared.Now.TheVariants as N
 use Rattle.frame.specs.declared.FrameSkip.{FrameSkip}
-use Rattle.frame.specs.Machine.{Rest, running}
+use Rattle.frame.specs.Machine.{running}
 use Rattle.frame.specs.State.{level_of, nest_at, held, rest_now, rest_of, run_of}
 use Rattle.frame.proofs.Held.{held_above}
-use Rattle.frame_rows.specs.declared.NestRead.{NestRead}
 use Rattle.frame_rows.specs.declared.NestRead.TheVariants as L
 use Rattle.frame_rows.specs.declared.GoalRead.TheVariants as G
 use Rattle.frame_rows.specs.declared.NowRead.{NowRead}
 use Rattle.frame_rows.specs.declared.NowRead.TheVariants as X
-use Rattle.frame_rows.specs.Row.{type_of, pair_of, item_of, nest_of, nest_in, put_typed, put_nest, goal_of, part_of, varint_of, now_of, now_in, put_goal, put_form, put_wait, put_now, is_nest, is_now, nest_or, now_or, all_nests, holds, levels_of, rest_in, frame_in, no_frame, frame_of, put_nests, most_open, put_counts, put_places, framed}
+use Rattle.frame_rows.specs.Row.{type_of, nest_of, nest_in, put_typed, put_nest, goal_of, part_of, now_of, now_in, put_goal, put_form, put_wait, put_now, nest_or, now_or, all_nests, holds, levels_of, rest_in, frame_in, no_frame, frame_of, put_nests, most_open, put_counts, put_places, framed}
 use Rattle.frame_rows.proofs.Cases.{pair_keys, pair_values, item_items, item_pairs, nest_fields, nest_typed, goal_flag, goal_id, goal_count, goal_pairs, goal_length, goal_short, varint_got, now_head, now_truth, now_list, now_types, now_varint, now_number, now_done, now_refused}
 
 -- a number that is put, and one that is left

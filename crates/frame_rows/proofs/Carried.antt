@@ -1,7 +1,7 @@
 -- A frame whose state was put into a row is there as one that has been handed the same bytes: so what is promised of the calls holds of calls over rows. Assumes
 -- nothing.
 use mathlib.Core.Path.{◌≡◌, refl, sym, ap, ap₂, subst, ◌∙◌}
-use mathlib.Core.Bool.{Bool, true, false, cond}
+use mathlib.Core.Bool.{true}
 use mathlib.Core.List.{List, ◌++◌}
 use Prim.Native.Nat.{ℕ, ◌+◌, ◌≤◌}
 use lib.ListN.{length}
@@ -9,15 +9,14 @@ use Rattle.types.specs.Limits.{in_range}
 use Rattle.types.specs.declared.TConfiguration.{TConfiguration}
 use Rattle.rows.specs.Row.{limits_of}
 use Rattle.frame.specs.declared.FrameSkip.{FrameSkip}
-use Rattle.frame.specs.declared.Taken.{Taken}
 use Rattle.frame.specs.Frame.{frame}
-use Rattle.frame.specs.Machine.{Rest, Run}
-use Rattle.frame.specs.State.{rest_of, run_of, sound_of, Sound, Deep, Standing, Took}
+use Rattle.frame.specs.Machine.{Run}
+use Rattle.frame.specs.State.{rest_of, run_of, sound_of, Sound, Deep}
 use Rattle.frame.proofs.Sounds.{Counted, in_range_lem, in_counts, stand_now, stands_sound}
 use Rattle.frame.proofs.Bursts.{Has, as_answer, take_answers}
-use Rattle.frame_rows.specs.Row.{frame_in, no_frame, frame_of, framed}
-use Rattle.frame_rows.specs.Tell.{ToldFrame, TookFrame}
-use Rattle.frame_rows.proofs.Back.{FitFrame, Same, read_back, kept_holds, read_levels_lem}
+use Rattle.frame_rows.specs.Row.{frame_of, framed}
+use Rattle.frame_rows.specs.Tell.{TookFrame}
+use Rattle.frame_rows.proofs.Back.{FitFrame, Same, read_back, read_levels_lem}
 
 module _ (f g : FrameSkip) (s : Same g f) (e : sound_of f ≡ true) (k : length f.stand.levels ≡ 64) (m : length g.stand.levels ≡ 64) where
   lefts : g.left ≡ f.left

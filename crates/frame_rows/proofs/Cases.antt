@@ -1,8 +1,8 @@
 -- What the functions that read a row answer at each of their returns. Assumes nothing.
 use mathlib.Core.Path.{◌≡◌, refl, sym, ap, ◌∙◌}
 use mathlib.Core.Bool.{Bool, true, false, cond}
-use mathlib.Core.List.{List, [], ◌∷◌}
-use Prim.Native.Nat.{ℕ, zero, suc, ◌+◌, ◌-◌, ◌*◌, ◌≤◌, ◌<◌}
+use mathlib.Core.List.{List}
+use Prim.Native.Nat.{ℕ, suc, ◌+◌, ◌-◌, ◌*◌, ◌≤◌, ◌<◌}
 use native.Mathlib.Omega.{arith}
 use borrow.Author.Rules.{sfits_of}
 use borrow.Author.Tests.{lt-ltb, le-ltb, le-leb, lt-leb, leb-true, eq-eqb, ne_eqb}
@@ -15,9 +15,8 @@ use Rattle.types.specs.Refusals.{BAD_STATE}
 use Rattle.types.specs.declared.TType.{TType}
 use Rattle.types.specs.declared.TypeRead.{TypeRead}
 use Rattle.types.specs.declared.TypeRead.TheVariants as R
-use Rattle.types.specs.declared.TConfiguration.{TConfiguration}
 use Rattle.heads.specs.Answers.{id_of}
-use Rattle.rows.specs.Row.{last_in, limits_of}
+use Rattle.rows.specs.Row.{last_in}
 use Rattle.frame.specs.declared.Nest.{Nest}
 use Rattle.frame.specs.declared.Nest.TheVariants.{Fields, Items, Keys, Values}
 use Rattle.frame.specs.declared.Level.{Level}
@@ -26,7 +25,6 @@ use Rattle.frame.specs.declared.Goal.TheVariants as O
 use Rattle.frame.specs.declared.Wait.TheVariants as W
 use Rattle.frame.specs.declared.Now.{Now}
 use Rattle.frame.specs.declared.Now.TheVariants as N
-use Rattle.frame.specs.declared.FrameSkip.{FrameSkip}
 use Rattle.frame.specs.State.{level_of}
 use Rattle.frame_rows.specs.declared.NestRead.{NestRead}
 use Rattle.frame_rows.specs.declared.NestRead.TheVariants as L
@@ -34,7 +32,7 @@ use Rattle.frame_rows.specs.declared.GoalRead.{GoalRead}
 use Rattle.frame_rows.specs.declared.GoalRead.TheVariants as G
 use Rattle.frame_rows.specs.declared.NowRead.{NowRead}
 use Rattle.frame_rows.specs.declared.NowRead.TheVariants as X
-use Rattle.frame_rows.specs.Row.{type_of, pair_of, item_of, nest_of, nest_in, goal_of, on_goal, part_of, varint_of, now_of, now_in, nest_or, now_or, is_now, all_nests, holds, levels_of, rest_in, frame_in, no_frame, frame_of, most_open}
+use Rattle.frame_rows.specs.Row.{type_of, pair_of, item_of, nest_of, nest_in, goal_of, part_of, varint_of, now_of, now_in, nest_or, is_now, all_nests, holds, levels_of, rest_in}
 
 pub type_in : (n : ℕ) (r : TypeRead) → n < 14 → r ≡ type_by_number n → r ≡ type_of n
 unfolding type_of

@@ -1,23 +1,22 @@
 -- What the functions that write a row leave in it at each of their returns. Assumes nothing.
-use mathlib.Core.Path.{◌≡◌, refl, sym, ap, ◌∙◌}
-use mathlib.Core.Bool.{Bool, true, false, cond}
-use mathlib.Core.List.{List, [], ◌∷◌}
-use Prim.Native.Nat.{ℕ, zero, suc, ◌+◌, ◌-◌, ◌*◌, ◌≤◌, ◌<◌}
+use mathlib.Core.Path.{◌≡◌, refl}
+use mathlib.Core.Bool.{Bool, true, false}
+use mathlib.Core.List.{List}
+use Prim.Native.Nat.{ℕ, suc, ◌+◌, ◌*◌, ◌≤◌, ◌<◌}
 use native.Mathlib.Omega.{arith}
 use borrow.Author.Rules.{sfits_of}
 use borrow.Author.Tests.{lt-ltb, le-ltb, eq-eqb, ne_eqb}
-use lib.ListN.{length, get_or, set}
+use lib.ListN.{get_or, set}
 use lib.IntN.{ℤ, pos}
 use mir.Syntax.{w16}
 use mir.Val.{of_z}
 use mir.Facts.{to_z-of_z}
 use Rattle.types.specs.Codes.{type_code}
-use Rattle.types.specs.Refusals.{BAD_STATE}
 use Rattle.types.specs.declared.TType.{TType}
 use Rattle.types.specs.declared.TConfiguration.{TConfiguration}
 use Rattle.types.specs.declared.FieldId.{FieldId}
 use Rattle.heads.specs.Answers.{id_of}
-use Rattle.rows.specs.Row.{limits_of, no_limits}
+use Rattle.rows.specs.Row.{limits_of}
 use Rattle.frame.specs.declared.Nest.{Nest}
 use Rattle.frame.specs.declared.Nest.TheVariants.{Fields, Items, Keys, Values}
 use Rattle.frame.specs.declared.Level.{Level}
@@ -33,7 +32,7 @@ use Rattle.frame.specs.declared.FrameSkip.{FrameSkip}
 use Rattle.frame.specs.declared.FrameAnswer.{FrameAnswer}
 use Rattle.frame.specs.declared.FrameAnswer.TheVariants as A
 use Rattle.frame.specs.State.{level_of}
-use Rattle.frame_rows.specs.Row.{nest_in, now_in, now_or, holds, levels_of, rest_in, put_counts, put_places, frame_in, no_frame, frame_of, put_typed, put_nest, put_goal, put_form, put_wait, put_now, put_nests, most_open, framed, limited}
+use Rattle.frame_rows.specs.Row.{holds, levels_of, rest_in, put_counts, put_places, frame_in, no_frame, frame_of, put_typed, put_nest, put_goal, put_form, put_wait, put_now, put_nests, most_open, framed, limited}
 use Rattle.frame_rows.proofs.Cases.{depth_held}
 use Rattle.frame.specs.Numbers.{MORE, number_frame}
 use Rattle.frame_rows.specs.Tell.{frame_after}

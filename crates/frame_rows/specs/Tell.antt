@@ -1,5 +1,5 @@
 -- What the calls of a frame leave with their caller: `w'` is behind the call what w was before it. Assumes nothing: these are definitions.
-use Rattle.std.specs.Prelude.{ℕ, ◌≡◌, Bool, true, false, cond, ◌&&◌, List, length, eqb}
+use Rattle.std.specs.Prelude.{ℕ, ◌≡◌, Bool, false, cond, List, length, eqb}
 use Rattle.types.specs.Limits.{in_range}
 use Rattle.types.specs.Refusals.{BAD_STATE}
 use Rattle.types.specs.declared.TConfiguration.{TConfiguration}

@@ -2,7 +2,7 @@
 use mathlib.Core.Path.{◌≡◌, refl, sym, ap, subst, ◌∙◌}
 use mathlib.Core.Bool.{Bool, true}
 use mathlib.Core.List.{List, []}
-use Prim.Native.Nat.{ℕ, zero, suc, ◌+◌, ◌-◌, ◌≤◌, ◌<◌}
+use Prim.Native.Nat.{ℕ, zero, suc, ◌+◌, ◌≤◌, ◌<◌}
 use native.Mathlib.Omega.{arith}
 use borrow.Author.Tests.{eq-eqb}
 use lib.ListN.{length, take, drop}
@@ -17,7 +17,7 @@ use Rattle.numbers.specs.Varint.{Found, got, refused}
 use Rattle.heads.specs.Reader.{Reader, read_to}
 use Rattle.heads.specs.Heads.{int8, int16, int32, int64, double, uuid, binary, text, items_head, pairs_head, Field, stop, bool, value, field}
 use Rattle.heads.specs.Answers.{place}
-use Rattle.heads.proofs.Lawful.{Lawful, Takes, then_takes}
+use Rattle.heads.proofs.Lawful.{Takes, then_takes}
 use Rattle.heads.proofs.Cut.{was_cut}
 use Rattle.heads.proofs.Ahead.{Fair, lawful_fair, items_head_fair, items_head_takes, pairs_head_fair, pairs_head_takes}
 use Rattle.heads.proofs.Readers.{int8_lawful, int16_lawful, int32_lawful, int64_lawful, double_lawful, uuid_lawful, binary_lawful, text_lawful, field_lawful, int8_takes, int16_takes, int32_takes, int64_takes, double_takes, uuid_takes, binary_takes, field_takes}

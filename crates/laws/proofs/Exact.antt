@@ -39,7 +39,7 @@ use Rattle.input.proofs.Laws.{busy, gate_free}
 use Rattle.input.proofs.Handed.{uuid_handed, bytes_handed, string_handed, name_handed}
 use Rattle.laws.specs.Text.{Form, binaries, strings, Plan, under, key_under, value_under, Fits, Texts, TextsAll, TextsPairs, TextsFields}
 use Rattle.laws.specs.Reading.{Took, took, halted, and_on, made, of_bool, of_i8, of_i16, of_i32, of_i64, of_double, of_part, of_list, of_map, of_message, a_bool, an_i8, an_i16, an_i32, an_i64, a_double, a_uuid, a_string, a_list, a_set, a_map, a_begin, an_end, a_message, read_all, read_pairs, behind_header, read_fields, Holders, holding, none, by_type, holders, read_levels, read_of, read_whole}
-use Rattle.laws.proofs.Reading.{Gave, Ready, ready_on, is_fine, is_free, found_to, there, list_gave, set_is, set_gave, map_gave, message_gave, behind, ready_header, taken_bool, headed_is, begin_is, ready_in, read_tree}
+use Rattle.laws.proofs.Reading.{Gave, Ready, ready_on, is_fine, is_free, found_to, list_gave, set_is, set_gave, map_gave, message_gave, behind, ready_header, taken_bool, headed_is, begin_is, ready_in, read_tree}
 
 -- a row of calls that gives something, taken apart
 pub no_took : {A X : Type 0} {why : ℕ} {a : A} {st : State} → ◌≡◌ {A = Took A} (halted why) (took a st) → X

@@ -5,7 +5,7 @@ use mathlib.Core.Path.{◌≡◌, refl, sym, ap, subst, ◌∙◌}
 use mathlib.Core.Bool.{true}
 use mathlib.Core.Logic.{◌↔◌}
 use mathlib.Core.List.{List, ◌++◌}
-use Prim.Native.Nat.{ℕ, ◌+◌, ◌-◌, ◌≤◌}
+use Prim.Native.Nat.{ℕ, ◌+◌, ◌≤◌}
 use native.Mathlib.Omega.{arith}
 use lib.ListN.{length, take, drop, length-drop, take-append-drop}
 use lib.Seq.{slice, length-take-le, take-take}
@@ -28,7 +28,7 @@ use Rattle.laws.specs.Text.{Plan, Texts}
 use Rattle.laws.specs.Reading.{took, read_of}
 use Rattle.laws.proofs.Nested.{nested}
 use Rattle.laws.proofs.Texts.{as_bytes, no_texts}
-use Rattle.laws.proofs.Reading.{Gave, Ready, ready, read_of_lem}
+use Rattle.laws.proofs.Reading.{Gave, ready, read_of_lem}
 use Rattle.laws.proofs.Exact.{Read, was_formed}
 
 -- a reader that is sound for its input, with no bool pending (the array of ids has 64 places, as its type says)

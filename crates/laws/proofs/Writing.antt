@@ -4,7 +4,7 @@
 use mathlib.Core.Path.{◌≡◌, refl, sym, ap, ap₂, subst, ◌∙◌}
 use mathlib.Core.Bool.{Bool, true, false}
 use mathlib.Core.List.{List, [], ◌∷◌, ◌++◌, append-nil}
-use Prim.Native.Nat.{ℕ, suc, ◌+◌, ◌-◌, ◌≤◌, ◌<◌}
+use Prim.Native.Nat.{ℕ, suc, ◌+◌, ◌≤◌, ◌<◌}
 use native.Mathlib.Omega.{arith}
 use borrow.Author.Tests.{ne_eqb, le-leb, lt-leb, le-ltb}
 use lib.Dec.{eqb}
@@ -30,7 +30,6 @@ use Rattle.puts.specs.Bytes.{field_bytes, items_bytes, pairs_bytes, string_bytes
 use Rattle.output.specs.Calls.{call, writes, leaves, truth_call, begin_wrong, end_wrong, bool_call, i8_call, int_call, double_call, uuid_call, bytes_call, string_call, items_call, pairs_call, struct_begin_call, struct_end_call, field_call, stop_call, message_call}
 use Rattle.output.specs.declared.AwaitedField.{AwaitedField}
 use Rattle.output.specs.declared.AwaitedField.TheVariants as A
-use Rattle.output.specs.declared.Written.{Written}
 use Rattle.output.specs.declared.WriteAnswer.{WriteAnswer}
 use Rattle.output.specs.declared.WriteAnswer.TheVariants as WA
 use Rattle.output.proofs.Checks.{Sound, cut_lets}

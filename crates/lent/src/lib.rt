@@ -1,5 +1,5 @@
 // A reader that keeps the lent bytes beside its state: thin calls over those of `input` and `skip`. Each hands back what that call answers, and the
-// reader with the next state. The borrow checker covers no function that holds such a reader, so each is proved by hand.
+// reader with the next state.
 #![tactic(auto)]
 
 ghost use Rattle.std.specs.Prelude.{◌≡◌};

@@ -1,9 +1,9 @@
 -- Bits are finite, as a point's are asked to be, exactly where the kit's IEEE 754 reads a finite number in them. Assumes nothing.
-use mathlib.Core.Path.{◌≡◌, refl, sym, ap, ◌∙◌}
-use mathlib.Core.Bool.{Bool, true, false, cond, not}
+use mathlib.Core.Path.{◌≡◌, refl, sym}
+use mathlib.Core.Bool.{Bool, true, false, not}
 use Prim.Native.Nat.{ℕ, zero, suc, ◌+◌, ◌/◌, ◌%◌}
 use lib.Dec.{eqb, leb}
-use lib.Ieee.{Float, nan, inf, fin, binary64, odd, of_fields, of_bits, prec, low, hid, ones, top}
+use lib.Ieee.{Float, nan, inf, fin, binary64, odd, of_fields, of_bits, prec, low, hid, top}
 use Rattle.points.specs.Points.{finite, NONE}
 
 abbrev pub is_finite : Float → Bool

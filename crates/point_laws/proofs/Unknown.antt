@@ -1,8 +1,7 @@
 -- Unknown fields put into a trial or its points change no point and no answer. Assumes nothing.
-use mathlib.Core.Path.{◌≡◌, refl, sym, ap, ap₂, subst, ◌∙◌}
+use mathlib.Core.Path.{◌≡◌, refl, sym, ap, ◌∙◌}
 use mathlib.Core.Bool.{Bool, true, false, cond, ◌||◌}
-use mathlib.Core.Logic.{◌⊎◌, inl, inr}
-use mathlib.Core.List.{List, [], ◌∷◌}
+use mathlib.Core.Logic.{inl, inr}
 use Prim.Native.Nat.{ℕ}
 use native.Mathlib.Omega.{arith}
 use lib.IntN.{ℤ, pos}
@@ -11,7 +10,7 @@ use Rattle.types.specs.Value as val
 use Rattle.types.specs.Value.{Tree, Trees, Fields, no_trees, tree, no_fields}
 use Rattle.wanted.specs.Wanted.{same_id, among}
 use Rattle.unknown.specs.Inserted.{Inserted}
-use Rattle.points.specs.Points.{with_double, noted, doubles_from, doubles_of, in_point, judged, onward, judge, nothing_seen, Listed, absent, list, listing, pick, listed_from, some_of, points_of, trial_of}
+use Rattle.points.specs.Points.{with_double, noted, doubles_from, doubles_of, in_point, judged, onward, judge, nothing_seen, Listed, absent, list, listing, pick, listed_from, points_of, trial_of}
 use Rattle.points.specs.declared.Doubles.{Doubles}
 use Rattle.points.specs.declared.Seen.{Seen}
 use Rattle.points.specs.declared.Judged.{Judged}

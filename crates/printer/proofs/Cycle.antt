@@ -3,7 +3,7 @@
 use mathlib.Core.Path.{◌≡◌, refl, sym, ap, ap₂, ◌∙◌}
 use mathlib.Core.Bool.{Bool, true, false}
 use mathlib.Core.List.{List}
-use Prim.Native.Nat.{ℕ, zero, suc, ◌+◌, ◌-◌, ◌≤◌, ◌<◌}
+use Prim.Native.Nat.{ℕ, zero, suc, ◌-◌, ◌≤◌, ◌<◌}
 use native.Mathlib.Omega.{arith}
 use lib.ListN.{length, drop, length-drop}
 use lib.IntN.{ℤ, pos}
@@ -16,10 +16,10 @@ use Rattle.types.specs.declared.TConfiguration.{TConfiguration}
 use Rattle.types.specs.Value as val
 use Rattle.types.specs.Value.{Tree, Trees, tree, Pairs, pair, Fields}
 use Rattle.numbers.specs.Varint.{Found, got, refused, placed}
-use Rattle.heads.specs.Reader.{Reader, done, read_at}
+use Rattle.heads.specs.Reader.{read_at}
 use Rattle.heads.specs.Heads as heads
 use Rattle.heads.specs.Heads.{items_head, pairs_head, Field}
-use Rattle.heads.specs.Answers.{place, to_list, items_head_at, to_map, pairs_head_at, to_field, field_at}
+use Rattle.heads.specs.Answers.{to_list, items_head_at, to_map, pairs_head_at, to_field, field_at}
 use Rattle.heads.specs.declared.ListHead.{ListHead}
 use Rattle.heads.specs.declared.ListHead.TheVariants as L
 use Rattle.heads.specs.declared.MapHead.{MapHead}
@@ -40,7 +40,7 @@ use Rattle.printer.specs.Value.{row_told, many_told, pair_told, pairs_told, item
 use Rattle.printer.specs.Printing.{ended, prints}
 use Rattle.printer.specs.declared.Printed.{Printed}
 use Rattle.printer.specs.declared.Printed.TheVariants.{Went, Stopped}
-use Rattle.printer.proofs.Prints.{Page, Tells, went, stopped, quiet_tells, prints_step, prints_stop, prints_aloud, prints_done, prints_made, prints_yes, prints_no}
+use Rattle.printer.proofs.Prints.{Page, went, stopped, quiet_tells, prints_step, prints_stop, prints_aloud, prints_done, prints_made, prints_yes, prints_no}
 use Rattle.printer.proofs.Walks.{fields_step}
 use Rattle.skip.proofs.Leaf.{no_leaf}
 

@@ -1,33 +1,24 @@
 -- Printing of the values that hold no other: what the code knows at each return. Assumes nothing.
 use mathlib.Core.Path.{◌≡◌, refl, sym, ap, ap₂, ◌∙◌}
-use mathlib.Core.Bool.{Bool, true, false}
+use mathlib.Core.Bool.{Bool}
 use mathlib.Core.List.{List}
-use Prim.Native.Nat.{ℕ, ◌+◌, ◌-◌, ◌/◌, ◌%◌, ◌≤◌, ◌<◌}
+use Prim.Native.Nat.{ℕ, ◌-◌, ◌≤◌}
 use native.Mathlib.Omega.{arith}
 use borrow.Author.Rules.{sfits_of}
-use borrow.Author.Tests.{leb-true}
-use lib.Dec.{leb, eqb}
 use lib.IntN.{ℤ}
-use lib.ListN.{length, take, drop, length-drop}
-use lib.Seq.{length-take-le}
+use lib.ListN.{length, take, drop}
 use mir.Facts.{to_z-of_z}
-use mir.Syntax.{w32}
-use mir.Val.{to_z}
-use Rattle.types.specs.Refusals.{BAD_TYPE, DEPTH, SIZE_LIMIT, BAD_UTF8, BAD_VERSION}
-use Rattle.types.specs.Codes.{message_by_number}
+use Rattle.types.specs.Refusals.{BAD_TYPE, DEPTH}
 use Rattle.types.specs.declared.Place.{Place}
-use Rattle.types.specs.declared.SeqNo.{SeqNo}
 use Rattle.types.specs.declared.TType.{TType}
 use Rattle.types.specs.declared.TType.TheVariants as T
-use Rattle.types.specs.declared.TMessageType.{TMessageType}
 use Rattle.types.specs.declared.TConfiguration.{TConfiguration}
 use Rattle.types.specs.Value as val
 use Rattle.types.specs.Value.{Tree}
-use Rattle.utf8.specs.Utf8.{utf8}
-use Rattle.numbers.specs.Varint.{Found, got, refused, placed}
-use Rattle.heads.specs.Reader.{Reader, done, refuse, and_then, provided, byte, some, read_at}
-use Rattle.heads.specs.Heads.{number32, int8, int16, int32, int64, double, uuid, truth, binary, text, Message, message_typed, named, versioned, message}
-use Rattle.heads.specs.Answers.{place, to_i8, to_i16, to_i32, to_i64, to_double, to_bool, to_part, int8_at, int16_at, int32_at, int64_at, double_at, truth_at, uuid_at, binary_at}
+use Rattle.numbers.specs.Varint.{Found, got, refused}
+use Rattle.heads.specs.Reader.{Reader, refuse, read_at}
+use Rattle.heads.specs.Heads.{int8, int16, int32, int64, double, uuid, truth, binary}
+use Rattle.heads.specs.Answers.{to_i8, to_i16, to_i32, to_i64, to_double, to_bool, to_part, int8_at, int16_at, int32_at, int64_at, double_at, truth_at, uuid_at, binary_at}
 use Rattle.heads.specs.declared.I8Read.{I8Read}
 use Rattle.heads.specs.declared.I8Read.TheVariants as I8
 use Rattle.heads.specs.declared.I16Read.{I16Read}

@@ -17,14 +17,14 @@ use Rattle.numbers.specs.Varint.{Found, got, refused, placed}
 use Rattle.heads.specs.Reader.{Reader, done, refuse, onward, and_then, provided}
 use Rattle.heads.specs.Heads as heads
 use Rattle.heads.specs.Heads.{items_head, pairs_head, Field}
-use Rattle.heads.proofs.Lawful.{Lawful, then_lawful}
+use Rattle.heads.proofs.Lawful.{then_lawful}
 use Rattle.heads.proofs.Readers.{message_lawful}
 use Rattle.skip.specs.Walk.{Entry, with_size, sizing, behind, walk, fields}
 use Rattle.skip.specs.Value as sk
 use Rattle.skip.specs.Value.{many, many_pairs, fields_of, startable, value_of}
 use Rattle.skip.proofs.Lawfuls.{value_lawful}
 use Rattle.lines.specs.Lines.{Item}
-use Rattle.printer.specs.Telling.{Told, Teller, quiet, aloud, onward_t, then_tell, making, provided_t, voiced}
+use Rattle.printer.specs.Telling.{Teller, quiet, aloud, onward_t, then_tell, making, provided_t, voiced}
 use Rattle.printer.specs.Value.{row_told, many_told, pair_told, add_pair, pairs_told, items_told, map_told, behind_told, walk_told, fields_told, struct_told, Boxes, shut_told, roomy_told, shaped_told, value_told}
 use Rattle.printer.specs.Printing.{message_told}
 use Rattle.heads.proofs.Steps.{placed_placed}

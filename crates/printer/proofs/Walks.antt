@@ -1,5 +1,5 @@
 -- The walk over a struct's fields, told: how many there may be has no say, so it goes on from a header in the same way. Assumes nothing.
-use mathlib.Core.Path.{◌≡◌, refl, sym, ap, ◌∙◌}
+use mathlib.Core.Path.{◌≡◌, refl, sym, ap}
 use mathlib.Core.List.{List, [], ◌∷◌, ◌++◌}
 use Prim.Native.Nat.{ℕ, zero, suc, ◌≤◌, ◌<◌}
 use native.Mathlib.Omega.{arith}
@@ -9,7 +9,7 @@ use Rattle.types.specs.Refusals.{END}
 use Rattle.types.specs.declared.TType.{TType}
 use Rattle.types.specs.Value.{Tree, Fields}
 use Rattle.numbers.specs.Varint.{Found, got, refused, placed}
-use Rattle.heads.specs.Reader.{Reader, refuse, byte, and_then}
+use Rattle.heads.specs.Reader.{refuse, byte, and_then}
 use Rattle.heads.specs.Heads.{Field, stop, bool, value, field}
 use Rattle.heads.proofs.Readers.{field_lawful, field_takes}
 use Rattle.lines.specs.Lines.{Item}

@@ -1,12 +1,10 @@
 -- The whole text: what the code knows at each return. Assumes nothing.
-use mathlib.Core.Path.{◌≡◌, refl, sym, ap, ap₂, ◌∙◌}
-use mathlib.Core.Bool.{Bool, true, false}
+use mathlib.Core.Path.{◌≡◌, sym, ap, ap₂, ◌∙◌}
 use mathlib.Core.List.{List, [], ◌∷◌, ◌++◌, append-nil}
-use Prim.Native.Nat.{ℕ, ◌+◌, ◌-◌, ◌≤◌, ◌<◌}
+use Prim.Native.Nat.{ℕ, ◌-◌, ◌≤◌, ◌<◌}
 use native.Mathlib.Omega.{arith}
 use borrow.Author.Tests.{lt-ltb, le-ltb}
 use lib.ListN.{length, take, drop}
-use lib.IntN.{ℤ}
 use Rattle.types.specs.Refusals.{NO_ROOM}
 use Rattle.types.specs.declared.Place.{Place}
 use Rattle.types.specs.declared.SeqNo.{SeqNo}
@@ -14,7 +12,7 @@ use Rattle.types.specs.declared.TType.TheVariants as T
 use Rattle.types.specs.declared.TMessageType.{TMessageType}
 use Rattle.types.specs.declared.TConfiguration.{TConfiguration}
 use Rattle.types.specs.Value.{Tree}
-use Rattle.numbers.specs.Varint.{Found, got, refused, placed}
+use Rattle.numbers.specs.Varint.{Found, got, refused}
 use Rattle.heads.specs.Reader.{read_at}
 use Rattle.heads.specs.Heads.{Message, message}
 use Rattle.heads.specs.Answers.{place, seq_of, to_message, message_at}
@@ -25,14 +23,14 @@ use Rattle.text.specs.Pen.{Pen, inked}
 use Rattle.text.proofs.Inks.{inked_append}
 use Rattle.lines.specs.Lines as row
 use Rattle.lines.specs.Lines.{Item, line, lines}
-use Rattle.printer.specs.Telling.{Told, Teller, quiet, aloud, then_tell}
+use Rattle.printer.specs.Telling.{Told, quiet, aloud}
 use Rattle.printer.specs.Value.{value_told}
 use Rattle.printer.specs.Printing.{prints, message_told, limits, ending, whole, report, text_of, written, print_call}
 use Rattle.printer.specs.declared.Printed.{Printed}
 use Rattle.printer.specs.declared.Printed.TheVariants.{Went, Stopped}
 use Rattle.printer.specs.declared.Text.{Text}
 use Rattle.printer.specs.declared.Text.TheVariants as X
-use Rattle.printer.proofs.Prints.{Page, Tells, lines_append, went, stopped, quiet_tells, prints_step, prints_stop, prints_aloud}
+use Rattle.printer.proofs.Prints.{Page, lines_append, went, stopped, quiet_tells, prints_step, prints_stop, prints_aloud}
 use Rattle.heads.proofs.Tails.{message_tail}
 use Rattle.printer.proofs.Leaf.{Between, between}
 use Rattle.printer.proofs.Same.{message_ends}

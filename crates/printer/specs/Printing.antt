@@ -10,7 +10,7 @@ use Rattle.heads.specs.Heads as heads
 use Rattle.text.specs.Pen.{Pen, inked}
 use Rattle.lines.specs.Lines as row
 use Rattle.lines.specs.Lines.{Item, lines}
-use Rattle.printer.specs.Telling.{Told, Teller, quiet, aloud, then_tell}
+use Rattle.printer.specs.Telling.{Teller, quiet, aloud, then_tell}
 use Rattle.printer.specs.Value.{value_told}
 use Rattle.printer.specs.declared.Printed.{Printed}
 use Rattle.printer.specs.declared.Printed.TheVariants as P

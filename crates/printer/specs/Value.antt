@@ -1,7 +1,7 @@
 -- The items of the value that stands in the bytes: skip's rules, with a line for each header and each value; "a header's line comes once its own checks
 -- pass (so `list stop 3`, then `refused 4`); nesting, Stop elements and unchecked strings are as in skip". By recursion on the room left, as
 -- crates/skip/specs/Value.antt. Assumes nothing: these are definitions.
-use Rattle.std.specs.Prelude.{ℕ, zero, suc, Bool, List, length, ℤ, pos}
+use Rattle.std.specs.Prelude.{ℕ, zero, suc, length, ℤ, pos}
 use Rattle.types.specs.Refusals.{END, BAD_TYPE, DEPTH}
 use Rattle.types.specs.declared.TType.{TType}
 use Rattle.types.specs.declared.TType.TheVariants as T

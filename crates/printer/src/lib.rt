@@ -156,7 +156,7 @@ fn print_leaf(
 }
 
 // A value, with `room` levels left.
-#[cycle(print_field_print_fields_print_items_print_many_print_map_print_pair_print_pairs_print_struct_print_value)]
+#[cycle(prints)]
 fn print_value(
     s: &[u8],
     at: Place,
@@ -199,7 +199,7 @@ fn can_begin(kind: TType, count: u32) -> bool
 }
 
 // A list or a set, which `whole` says, that has been entered: `room` levels are left for its elements.
-#[cycle(print_field_print_fields_print_items_print_many_print_map_print_pair_print_pairs_print_struct_print_value)]
+#[cycle(prints)]
 fn print_items(
     s: &[u8],
     at: Place,
@@ -224,7 +224,7 @@ fn print_items(
 }
 
 // So many values of a type.
-#[cycle(print_field_print_fields_print_items_print_many_print_map_print_pair_print_pairs_print_struct_print_value)]
+#[cycle(prints)]
 fn print_many(
     s: &[u8],
     at: Place,
@@ -256,7 +256,7 @@ fn print_many(
 }
 
 // A map that has been entered. A value type Stop is refused before the first key is read.
-#[cycle(print_field_print_fields_print_items_print_many_print_map_print_pair_print_pairs_print_struct_print_value)]
+#[cycle(prints)]
 fn print_map(
     s: &[u8],
     at: Place,
@@ -283,7 +283,7 @@ fn print_map(
 }
 
 // So many keys, each with its value.
-#[cycle(print_field_print_fields_print_items_print_many_print_map_print_pair_print_pairs_print_struct_print_value)]
+#[cycle(prints)]
 fn print_pairs(
     s: &[u8],
     at: Place,
@@ -316,7 +316,7 @@ fn print_pairs(
 }
 
 // A key, and its value.
-#[cycle(print_field_print_fields_print_items_print_many_print_map_print_pair_print_pairs_print_struct_print_value)]
+#[cycle(prints)]
 fn print_pair(
     s: &[u8],
     at: Place,
@@ -336,7 +336,7 @@ fn print_pair(
 }
 
 // A struct that has been entered: its begin, and its fields.
-#[cycle(print_field_print_fields_print_items_print_many_print_map_print_pair_print_pairs_print_struct_print_value)]
+#[cycle(prints)]
 fn print_struct(
     s: &[u8],
     at: Place,
@@ -352,7 +352,7 @@ fn print_struct(
 }
 
 // A struct's fields up to the stop. Its ids begin anew.
-#[cycle(print_field_print_fields_print_items_print_many_print_map_print_pair_print_pairs_print_struct_print_value)]
+#[cycle(prints)]
 fn print_fields(
     s: &[u8],
     at: Place,
@@ -391,7 +391,7 @@ fn print_fields(
 }
 
 // A field whose header has been read: its line, and its value.
-#[cycle(print_field_print_fields_print_items_print_many_print_map_print_pair_print_pairs_print_struct_print_value)]
+#[cycle(prints)]
 fn print_field(
     s: &[u8],
     at: Place,

@@ -2,7 +2,7 @@
 use mathlib.Core.Path.{◌≡◌, refl, sym, ap, subst, ◌∙◌}
 use mathlib.Core.Logic.{◌↔◌}
 use mathlib.Core.Bool.{Bool, true, false, cond}
-use mathlib.Core.List.{List, [], ◌++◌, append-nil}
+use mathlib.Core.List.{List, [], append-nil}
 use Prim.Native.Nat.{ℕ, ◌≤◌, ◌<◌}
 use native.Mathlib.Omega.{arith}
 use lib.ListN.{length, take}
@@ -14,10 +14,10 @@ use Rattle.types.specs.declared.TType.{TType}
 use Rattle.types.specs.declared.TType.TheVariants as T
 use Rattle.types.specs.declared.TConfiguration.{TConfiguration}
 use Rattle.types.specs.Value.{Tree}
-use Rattle.numbers.specs.Varint.{Found, got, refused}
+use Rattle.numbers.specs.Varint.{got, refused}
 use Rattle.heads.specs.Reader.{Reader, and_then, some, byte}
 use Rattle.heads.specs.Heads.{double, uuid, field, least_size}
-use Rattle.heads.specs.Spells.{Spells, Formed}
+use Rattle.heads.specs.Spells.{Spells}
 use Rattle.heads.proofs.Lawful.{not_both}
 use Rattle.heads.proofs.Readers.{int8_lawful, int8_takes, int16_lawful, int16_takes, int32_lawful, int32_takes, int64_lawful, int64_takes, double_lawful, uuid_lawful, truth_lawful, truth_takes, binary_lawful, binary_takes, items_lawful, items_takes, pairs_lawful, pairs_takes, field_lawful, field_takes}
 use Rattle.skip.specs.Value.{value_of}
@@ -26,8 +26,8 @@ use Rattle.skip.proofs.Sound as own-sound
 use Rattle.skip.proofs.Complete as own-complete
 use Rattle.protocols.specs.Words.{compact}
 use Rattle.protocols.specs.Value.{value_by}
-use Rattle.protocols.specs.Spells.{SpellsBy, FormedBy}
-use Rattle.protocols.proofs.Owes.{Reads, Owes, reads}
+use Rattle.protocols.specs.Spells.{SpellsBy}
+use Rattle.protocols.proofs.Owes.{Owes, reads}
 use Rattle.protocols.proofs.Same.{value_same}
 use Rattle.protocols.proofs.Sound.{sound}
 use Rattle.protocols.proofs.Complete.{complete}

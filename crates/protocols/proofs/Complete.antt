@@ -1,11 +1,10 @@
 -- Bytes that spell a value by the words of a protocol are read as it, whatever stands behind them. Assumes nothing.
 use mathlib.Core.Path.{◌≡◌, refl, sym, ap, ap₂, subst, ◌∙◌}
-use mathlib.Core.Bool.{Bool, true, false}
-use mathlib.Core.Logic.{◌⊎◌, inl, inr, ⊎_elim}
-use mathlib.Core.List.{List, [], ◌∷◌, ◌++◌, append_assoc}
+use mathlib.Core.Bool.{Bool, true}
+use mathlib.Core.Logic.{⊎_elim}
+use mathlib.Core.List.{List, [], ◌∷◌, ◌++◌}
 use Prim.Native.Nat.{ℕ, zero, suc, ◌+◌, ◌-◌, ◌*◌, ◌≤◌, ◌<◌}
 use native.Mathlib.Nat.{add-zero}
-use native.Mathlib.Numerals.{sub-one}
 use native.Mathlib.Omega.{arith}
 use borrow.Author.Tests.{lt-ltb, ne_eqb}
 use lib.ListN.{length, drop, length-append}
@@ -19,12 +18,12 @@ use Rattle.types.specs.declared.TConfiguration.{TConfiguration}
 use Rattle.types.specs.Value as val
 use Rattle.types.specs.Value.{Tree, Trees, no_trees, tree, Pairs, no_pairs, pair, Fields, no_fields, type_of, size, size_p}
 use Rattle.types.proofs.Value.{no_stop}
-use Rattle.numbers.specs.Varint.{Found, got, refused, placed}
-use Rattle.heads.specs.Reader.{Reader, done, refuse, and_then, provided, Whole}
+use Rattle.numbers.specs.Varint.{Found, got}
+use Rattle.heads.specs.Reader.{Reader, done, and_then, provided, Whole}
 use Rattle.heads.specs.Heads.{Field, stop, bool, value}
 use Rattle.heads.proofs.Lawful.{Lawful, then_got, whole_front}
 use Rattle.heads.proofs.Ahead.{is_backed}
-use Rattle.skip.specs.Walk.{Entry, with_size, sizing, behind}
+use Rattle.skip.specs.Walk.{Entry, with_size, sizing}
 use Rattle.skip.specs.Value.{many, many_pairs, fields_of, startable, Boxes, shut}
 use Rattle.skip.specs.Leaves.{is_leaf}
 use Rattle.skip.proofs.Complete.{joined, made}

@@ -1,8 +1,8 @@
 -- The reader of a whole value by the words of a protocol is lawful and takes at least a byte. Assumes nothing.
-use mathlib.Core.Path.{◌≡◌, refl, sym, ap, ap₂, ◌∙◌}
+use mathlib.Core.Path.{◌≡◌, sym, ap, ◌∙◌}
 use mathlib.Core.Bool.{Bool}
-use mathlib.Core.List.{List, [], ◌∷◌, ◌++◌}
-use Prim.Native.Nat.{ℕ, zero, suc, ◌+◌, ◌-◌, ◌≤◌, ◌<◌}
+use mathlib.Core.List.{List, [], ◌++◌}
+use Prim.Native.Nat.{ℕ, zero, suc, ◌≤◌}
 use native.Mathlib.Omega.{arith}
 use lib.ListN.{length, take, drop, length-drop, length-take, take-append-drop}
 use lib.IntN.{ℤ, pos}
@@ -12,13 +12,12 @@ use Rattle.types.specs.declared.TType.TheVariants as T
 use Rattle.types.specs.declared.TConfiguration.{TConfiguration}
 use Rattle.types.specs.Value as val
 use Rattle.types.specs.Value.{Tree}
-use Rattle.numbers.specs.Varint.{Found, got, refused}
-use Rattle.heads.specs.Reader.{Reader, done, refuse, and_then, provided}
+use Rattle.numbers.specs.Varint.{got}
+use Rattle.heads.specs.Reader.{Reader, refuse, and_then}
 use Rattle.heads.specs.Heads.{Field, stop, bool, value}
 use Rattle.heads.proofs.Lawful.{Lawful, LawfulAt, Takes, not_both, done_lawful, then_lawful_at, lawful_at, at_lawful, then_takes}
 use Rattle.heads.proofs.Ahead.{backed_takes}
-use Rattle.skip.specs.Walk.{Entry, with_size, sizing, behind}
-use Rattle.skip.proofs.Walks.{sized}
+use Rattle.skip.specs.Walk.{Entry, sizing, behind}
 use Rattle.skip.proofs.Lawfuls.{sizing_lawful, sizing_takes}
 use Rattle.protocols.specs.Words.{Words}
 use Rattle.protocols.specs.Value.{fields_by, value_by}

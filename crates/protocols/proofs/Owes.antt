@@ -8,7 +8,7 @@ use Rattle.types.specs.Refusals.{END}
 use Rattle.types.specs.declared.TType.{TType}
 use Rattle.types.specs.declared.TType.TheVariants as T
 use Rattle.types.specs.declared.TConfiguration.{TConfiguration}
-use Rattle.numbers.specs.Varint.{Found, got, refused}
+use Rattle.numbers.specs.Varint.{got, refused}
 use Rattle.heads.specs.Reader.{Reader}
 use Rattle.heads.proofs.Lawful.{Lawful, Takes}
 use Rattle.protocols.specs.Words.{Words}

@@ -1,11 +1,9 @@
 -- What is read by the words of a protocol is spelt by the bytes that it took. Assumes nothing.
-use mathlib.Core.Path.{◌≡◌, refl, sym, ap, ap₂, subst, ◌∙◌}
+use mathlib.Core.Path.{◌≡◌, refl, sym, ap, subst, ◌∙◌}
 use mathlib.Core.Bool.{Bool, true, false}
-use mathlib.Core.Logic.{◌⊎◌, inl, inr}
+use mathlib.Core.Logic.{inl, inr}
 use mathlib.Core.List.{List, [], ◌∷◌, ◌++◌}
-use Prim.Native.Nat.{ℕ, zero, suc, ◌+◌, ◌-◌, ◌*◌, ◌≤◌, ◌<◌}
-use native.Mathlib.Nat.{add-zero}
-use native.Mathlib.Numerals.{sub-one}
+use Prim.Native.Nat.{ℕ, zero, suc, ◌+◌, ◌-◌, ◌≤◌, ◌<◌}
 use native.Mathlib.Omega.{arith}
 use lib.ListN.{length, take, drop, length-drop}
 use lib.Seq.{take-add}
@@ -16,12 +14,12 @@ use Rattle.types.specs.declared.TType.TheVariants as T
 use Rattle.types.specs.declared.TConfiguration.{TConfiguration}
 use Rattle.types.specs.Value as val
 use Rattle.types.specs.Value.{Tree, Trees, no_trees, tree, Pairs, no_pairs, pair, Fields, no_fields, size, size_p}
-use Rattle.numbers.specs.Varint.{Found, got, refused, placed}
-use Rattle.heads.specs.Reader.{Reader, done, refuse, onward, and_then, provided, Whole}
+use Rattle.numbers.specs.Varint.{got}
+use Rattle.heads.specs.Reader.{Reader, done, refuse, and_then, provided, Whole}
 use Rattle.heads.specs.Heads.{Field, stop, bool, value}
 use Rattle.heads.proofs.Lawful.{Lawful, Both, both, not_both, whole_of}
 use Rattle.heads.proofs.Ahead.{was_backed}
-use Rattle.skip.specs.Walk.{Entry, with_size, sizing, behind}
+use Rattle.skip.specs.Walk.{Entry, sizing, behind}
 use Rattle.skip.specs.Value.{many, many_pairs, fields_of, startable, Boxes, shut}
 use Rattle.skip.proofs.Walks.{sized}
 use Rattle.skip.proofs.Sound.{unmade}

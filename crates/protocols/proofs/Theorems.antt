@@ -1,22 +1,21 @@
 -- Skip by the words of a protocol succeeds exactly on a well-formed value within the limits, and uses just its bytes. Assumes nothing.
-use mathlib.Core.Path.{◌≡◌, refl, sym, ap, ap₂, subst, ◌∙◌}
+use mathlib.Core.Path.{◌≡◌, sym, ap, subst, ◌∙◌}
 use mathlib.Core.Logic.{◌↔◌}
-use mathlib.Core.List.{List, [], ◌∷◌, ◌++◌}
-use Prim.Native.Nat.{ℕ, zero, suc, ◌+◌, ◌-◌, ◌≤◌, ◌<◌}
+use mathlib.Core.List.{List, ◌++◌}
+use Prim.Native.Nat.{ℕ, ◌-◌, ◌≤◌, ◌<◌}
 use native.Mathlib.Omega.{arith}
-use lib.ListN.{length, take, drop, length-drop, length-take, take-append-drop}
+use lib.ListN.{length, take, drop, length-drop, take-append-drop}
 use lib.Seq.{slice, length-slice, drop-append-le, length-take-le}
 use Rattle.types.specs.declared.Place.{Place}
 use Rattle.types.specs.declared.TType.{TType}
 use Rattle.types.specs.declared.TConfiguration.{TConfiguration}
 use Rattle.types.specs.Value.{Tree}
-use Rattle.numbers.specs.Varint.{Found, got, refused, placed}
+use Rattle.numbers.specs.Varint.{got, placed}
 use Rattle.numbers.proofs.Found.{take_drop, as_long}
 use Rattle.heads.specs.Reader.{read_at}
 use Rattle.heads.specs.Answers.{place}
 use Rattle.heads.proofs.Steps.{found_at}
-use Rattle.skip.specs.Skip.{past}
-use Rattle.skip.specs.declared.Skipped.TheVariants.{Done, Refused}
+use Rattle.skip.specs.declared.Skipped.TheVariants.{Done}
 use Rattle.skip.proofs.Past.{read_past, past_got}
 use Rattle.protocols.specs.Words.{Words}
 use Rattle.protocols.specs.Value.{value_by}

@@ -1,15 +1,15 @@
 -- The walk over fields by the words of a protocol: how many it may take at most has no say, and its one step. Assumes nothing.
-use mathlib.Core.Path.{◌≡◌, refl, sym, ap, ◌∙◌}
+use mathlib.Core.Path.{◌≡◌, refl, sym, ap}
 use mathlib.Core.Bool.{Bool}
 use mathlib.Core.List.{List, [], ◌∷◌}
-use Prim.Native.Nat.{ℕ, zero, suc, ◌+◌, ◌-◌, ◌≤◌, ◌<◌}
+use Prim.Native.Nat.{ℕ, zero, suc, ◌≤◌, ◌<◌}
 use native.Mathlib.Omega.{arith}
 use lib.ListN.{length, drop, length-drop}
 use lib.IntN.{ℤ}
 use Rattle.types.specs.Refusals.{END}
 use Rattle.types.specs.declared.TType.{TType}
-use Rattle.numbers.specs.Varint.{Found, got, refused, placed}
-use Rattle.heads.specs.Reader.{Reader, done, refuse, onward, and_then}
+use Rattle.numbers.specs.Varint.{Found, got, refused}
+use Rattle.heads.specs.Reader.{Reader, refuse, onward, and_then}
 use Rattle.heads.specs.Heads.{Field, stop, bool, value}
 use Rattle.skip.specs.Walk.{Entry, with_size, sizing, behind}
 use Rattle.skip.proofs.Walks.{then_same, first_same, shorter, sized}

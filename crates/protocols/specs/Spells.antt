@@ -1,5 +1,5 @@
 -- Which bytes are a value by the words of a protocol: by recursion on the value's tree, and by nothing that skip does. Assumes nothing: these are definitions.
-use Rattle.std.specs.Prelude.{ℕ, ◌-◌, ◌≤◌, ◌<◌, ◌≡◌, Bool, ◌⊎◌, List, [], ◌∷◌, ◌++◌, length, ℤ, pos}
+use Rattle.std.specs.Prelude.{ℕ, ◌-◌, ◌≤◌, ◌<◌, ◌≡◌, Bool, ◌⊎◌, List, [], ◌++◌, length, ℤ, pos}
 use Rattle.std.proofs.Math.Seq.{slice}
 use Rattle.types.specs.declared.TType.{TType}
 use Rattle.types.specs.declared.TType.TheVariants as T

@@ -1,6 +1,6 @@
 -- The value that stands in the bytes, by the words of a protocol, with the refusals in reading order: the rules of "Skip", by recursion on the room left under
 -- the depth limit. Assumes nothing: these are definitions.
-use Rattle.std.specs.Prelude.{ℕ, zero, suc, Bool, List, [], ◌∷◌, length, ℤ, pos}
+use Rattle.std.specs.Prelude.{ℕ, zero, suc, Bool, List, length, ℤ, pos}
 use Rattle.types.specs.Refusals.{END, BAD_TYPE}
 use Rattle.types.specs.declared.TType.{TType}
 use Rattle.types.specs.declared.TType.TheVariants as T

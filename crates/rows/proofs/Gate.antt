@@ -21,7 +21,7 @@ use Rattle.input.specs.declared.Awaited.{Awaited}
 use Rattle.input.specs.declared.Awaited.TheVariants as W
 use Rattle.output.specs.State as O
 use Rattle.output.specs.declared.AwaitedField.TheVariants as A
-use Rattle.rows.specs.Row.{last_in, turn_of, limits_of, holds, awaited_of, awaited_no, field_of, field_no, reader_top, reader_in, reader_of, writer_top, writer_in, writer_of, gate_of, refilled, reader_after, writer_after}
+use Rattle.rows.specs.Row.{last_in, turn_of, limits_of, awaited_of, awaited_no, field_of, field_no, reader_top, reader_in, reader_of, writer_top, writer_in, writer_of, gate_of, refilled, reader_after, writer_after}
 use Rattle.rows.specs.Structs.{last_write}
 use Rattle.rows.proofs.Cases.{bits_fit}
 

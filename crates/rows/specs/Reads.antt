@@ -24,7 +24,6 @@ use Rattle.input.specs.declared.FieldAnswer.{FieldAnswer}
 use Rattle.input.specs.declared.FieldAnswer.TheVariants as F
 use Rattle.input.specs.declared.MessageAnswer.{MessageAnswer}
 use Rattle.input.specs.declared.MessageAnswer.TheVariants as H
-use Rattle.input.specs.declared.DoneAnswer.{DoneAnswer}
 use Rattle.input.specs.declared.ReadBool.{ReadBool}
 use Rattle.input.specs.declared.ReadI8.{ReadI8}
 use Rattle.input.specs.declared.ReadI16.{ReadI16}

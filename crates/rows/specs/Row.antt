@@ -1,7 +1,7 @@
 -- The row of six numbers that holds a state: 0 the place; 1 the last id, as its 16 bits, and 65,536 times what waits; 2 the depth; 3 the limit on
 -- depth, in the low 32 bits, and 2^32 times the ceiling; 4 the limit on strings, so too, and 2^32 times the one on containers; 5 the place where the message
 -- began. Assumes nothing: these are definitions.
-use Rattle.std.specs.Prelude.{ℕ, ◌+◌, ◌-◌, ◌*◌, ◌/◌, ◌%◌, Bool, true, false, cond, ◌&&◌, List, length, get_or, set, replicate, eqb, leb, ltb, ℤ, pos}
+use Rattle.std.specs.Prelude.{ℕ, ◌+◌, ◌-◌, ◌*◌, ◌/◌, ◌%◌, Bool, cond, ◌&&◌, List, length, get_or, set, replicate, eqb, leb, ltb, ℤ, pos}
 use Rattle.std.specs.Int.{w16}
 use Rattle.std.proofs.Common.{to_z, of_z}
 use Rattle.types.specs.Codes.{truth_code}

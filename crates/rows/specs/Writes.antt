@@ -3,7 +3,6 @@ use Rattle.std.specs.Prelude.{ℕ, ◌≡◌, Bool, false, cond, List, [], ℤ, 
 use Rattle.types.specs.Codes.{type_by_number, message_by_number}
 use Rattle.types.specs.declared.FieldId.{FieldId}
 use Rattle.types.specs.declared.SeqNo.{SeqNo}
-use Rattle.types.specs.declared.TType.{TType}
 use Rattle.types.specs.declared.TType.TheVariants as T
 use Rattle.types.specs.declared.TypeRead.{TypeRead}
 use Rattle.types.specs.declared.TypeRead.TheVariants as R
@@ -14,7 +13,7 @@ use Rattle.output.specs.Calls.{Call, call, writes, leaves, message_call, field_c
 use Rattle.output.specs.declared.WriteAnswer.{WriteAnswer}
 use Rattle.output.specs.declared.WriteAnswer.TheVariants as WA
 use Rattle.output.specs.declared.Written.{Written}
-use Rattle.rows.specs.Row.{writer_of, writer_after}
+use Rattle.rows.specs.Row.{writer_after}
 
 -- the scope paper's number of an answer: 0 for none
 abbrev pub number_written : WriteAnswer → ℕ

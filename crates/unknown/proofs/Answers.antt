@@ -1,11 +1,10 @@
 -- What the picker answers for a struct that the writer wrote: by the struct's own fields alone. Assumes nothing.
-use mathlib.Core.Path.{◌≡◌, refl, sym, ap, ap₂, ◌∙◌}
+use mathlib.Core.Path.{◌≡◌, refl, sym, ap, ◌∙◌}
 use mathlib.Core.Bool.{Bool}
-use mathlib.Core.List.{List, [], ◌∷◌, ◌++◌, append_assoc}
-use Prim.Native.Nat.{ℕ, ◌+◌, ◌≤◌}
-use native.Mathlib.Omega.{arith}
+use mathlib.Core.List.{List, ◌++◌, append_assoc}
+use Prim.Native.Nat.{ℕ, ◌+◌}
 use lib.Dec.{eqb}
-use lib.IntN.{ℤ, pos}
+use lib.IntN.{ℤ}
 use lib.ListN.{length, take, drop}
 use lib.Seq.{slice, take_at}
 use Rattle.types.specs.Codes.{type_code}
@@ -15,11 +14,10 @@ use Rattle.types.specs.Value as val
 use Rattle.types.specs.Value.{Tree, Pairs, no_pairs, pair, Fields, no_fields, type_of}
 use Rattle.numbers.proofs.Found.{take_drop}
 use Rattle.puts.specs.Bytes.{field_bytes}
-use Rattle.skip.specs.Walk.{Entry}
 use Rattle.wanted.specs.Wanted.{same_id}
-use Rattle.picker.specs.Pick.{Row, kind_alone, row_of, Own, owned, own_from, Last, last_of, occurs, of_id, of_type, answered, answer}
-use Rattle.laws.specs.Written.{field_code, in_header, bytes_of, bytes_of_fields, map_of, readable, readable_pairs}
-use Rattle.unknown.specs.Inserted.{Told, absent, other, told, last_in, kind_in, kind_of, value_bytes, bytes_in}
+use Rattle.picker.specs.Pick.{Row, row_of, Own, owned, own_from, Last, last_of, occurs, of_id, of_type, answered, answer}
+use Rattle.laws.specs.Written.{field_code, bytes_of_fields, map_of, readable, readable_pairs}
+use Rattle.unknown.specs.Inserted.{Told, absent, other, told, last_in, kind_of, value_bytes, bytes_in}
 use Rattle.unknown.proofs.Entries.{entries_of, behind}
 use Rattle.unknown.proofs.Link.{Link, link_more}
 

@@ -1,30 +1,29 @@
 -- The fields of a struct that the writer wrote, as the walk over its bytes finds them. Assumes nothing.
 use mathlib.Core.Path.{◌≡◌, refl, sym, ap, ap₂, ◌∙◌}
-use mathlib.Core.Bool.{Bool, true, false, cond}
+use mathlib.Core.Bool.{Bool}
 use mathlib.Core.List.{List, [], ◌∷◌, ◌++◌, append_assoc}
 use Prim.Native.Nat.{ℕ, ◌+◌, ◌-◌, ◌≤◌, ◌<◌}
 use native.Mathlib.Omega.{arith}
-use lib.IntN.{ℤ, pos}
+use lib.IntN.{ℤ}
 use lib.ListN.{length, drop, length-append}
 use lib.Seq.{drop-drop, drop_at}
 use mir.Syntax.{w16}
 use mir.Val.{SFits}
 use Rattle.types.specs.Codes.{type_code, truth_code}
-use Rattle.types.specs.declared.TType.{TType}
 use Rattle.types.specs.declared.TConfiguration.{TConfiguration}
 use Rattle.types.specs.Value as val
 use Rattle.types.specs.Value.{Tree, Fields, no_fields, type_of, nesting, nesting_fields, Sized, SizedFields, Typed, TypedFields}
 use Rattle.types.proofs.Limits.{Ranged}
 use Rattle.numbers.specs.Varint.{Found, got, placed}
 use Rattle.heads.specs.Reader.{read_at}
-use Rattle.heads.specs.Heads.{Field, stop, bool, value, field}
+use Rattle.heads.specs.Heads.{stop, bool, value, field}
 use Rattle.puts.specs.Bytes.{field_bytes}
 use Rattle.output.proofs.Fields.{stop_reads, bool_reads, value_reads}
 use Rattle.skip.specs.Walk.{Entry, fields}
 use Rattle.skip.specs.Value.{value_of}
 use Rattle.skip.proofs.Complete.{complete}
 use Rattle.picker.proofs.Walk.{walk_stop, walk_bool, walk_value}
-use Rattle.laws.specs.Written.{field_code, in_header, bytes_of, bytes_of_fields, readable}
+use Rattle.laws.specs.Written.{field_code, bytes_of, bytes_of_fields, readable}
 use Rattle.laws.proofs.Spelt.{InField, truthful, valued, in_field, spelt}
 use Rattle.unknown.specs.Inserted.{value_bytes}
 

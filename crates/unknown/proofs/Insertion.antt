@@ -1,10 +1,10 @@
 -- Unknown fields change no answer: a struct within the limits and a longer one with complete fields put among its own, none of a listed id, both
 -- written by the writer's calls, are picked alike, at whatever depth the reader stands. Assumes nothing.
-use mathlib.Core.Path.{◌≡◌, refl, sym, ap, ap₂, subst, ◌∙◌}
-use mathlib.Core.Logic.{◌⊎◌, inl, inr, ⊎_elim}
-use mathlib.Core.Bool.{Bool, true, false, cond, ◌||◌}
-use mathlib.Core.List.{List, [], ◌∷◌, ◌++◌}
-use Prim.Native.Nat.{ℕ, suc, ◌+◌, ◌-◌, ◌*◌, ◌≤◌, ◌<◌}
+use mathlib.Core.Path.{◌≡◌, refl, sym, ap, subst, ◌∙◌}
+use mathlib.Core.Logic.{⊎_elim}
+use mathlib.Core.Bool.{Bool, true, false}
+use mathlib.Core.List.{List, ◌++◌}
+use Prim.Native.Nat.{ℕ, ◌+◌, ◌-◌, ◌*◌, ◌≤◌}
 use native.Mathlib.Omega.{arith}
 use lib.Dec.{eqb}
 use lib.IntN.{ℤ, pos}
@@ -15,17 +15,13 @@ use Rattle.types.specs.declared.TConfiguration.{TConfiguration}
 use Rattle.types.specs.Value as val
 use Rattle.types.specs.Value.{Tree, Fields, no_fields, type_of, nesting, nesting_fields, Sized, SizedFields, Typed, TypedFields, Within}
 use Rattle.types.proofs.Limits.{Ranged}
-use Rattle.numbers.specs.Varint.{got}
-use Rattle.heads.specs.Reader.{read_at}
-use Rattle.heads.specs.Answers.{place}
-use Rattle.input.specs.State.{State, cut_of, sound, waits, moved_to}
-use Rattle.input.specs.Outcome.{Outcome, answers}
+use Rattle.input.specs.State.{State, cut_of, sound, waits}
+use Rattle.input.specs.Outcome.{Outcome}
 use Rattle.input.specs.Answers.{as_done}
-use Rattle.input.specs.declared.ReadDone.{ReadDone}
 use Rattle.skip.specs.Walk.{Entry}
 use Rattle.skip.specs.Skip.{room_of, skipped_to}
 use Rattle.wanted.specs.Wanted.{same_id, among, listed}
-use Rattle.wanted.proofs.Cases.{is_same, same_self}
+use Rattle.wanted.proofs.Cases.{is_same}
 use Rattle.picker.specs.Pick.{Row, Own, own_from, answer, rows_of, forgets, pick_call, written, picked_rows}
 use Rattle.picker.proofs.Went.{Went, went_is}
 use Rattle.output.specs.State as writer

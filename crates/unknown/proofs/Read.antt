@@ -1,36 +1,33 @@
 -- The picker agrees with reading the struct field by field through the reader's calls and keeping the last of each id and type. Assumes nothing.
-use mathlib.Core.Path.{◌≡◌, refl, sym, ap, ap₂, subst, ◌∙◌}
-use mathlib.Core.Logic.{◌⊎◌, inl, inr}
-use mathlib.Core.Bool.{Bool, true, false, cond}
+use mathlib.Core.Path.{◌≡◌, refl, sym, ap, subst, ◌∙◌}
+use mathlib.Core.Logic.{◌⊎◌}
+use mathlib.Core.Bool.{Bool}
 use mathlib.Core.List.{List, [], ◌∷◌}
-use Prim.Native.Nat.{ℕ, ◌+◌, ◌-◌, ◌≤◌}
+use Prim.Native.Nat.{ℕ, ◌+◌, ◌-◌}
 use native.Mathlib.Omega.{arith}
 use lib.Dec.{eqb}
 use lib.IntN.{ℤ, pos}
 use lib.ListN.{length}
 use Rattle.types.specs.Codes.{type_code}
-use Rattle.types.specs.declared.TType.{TType}
 use Rattle.types.specs.declared.TType.TheVariants as T
 use Rattle.types.specs.declared.TConfiguration.{TConfiguration}
 use Rattle.types.specs.Value as val
 use Rattle.types.specs.Value.{Tree, Fields, type_of}
 use Rattle.numbers.specs.Varint.{got}
 use Rattle.heads.specs.Reader.{read_at}
-use Rattle.input.specs.State.{State, waits}
-use Rattle.input.specs.declared.Awaited.{Awaited}
-use Rattle.input.specs.declared.Awaited.TheVariants as W
+use Rattle.input.specs.State.{State}
 use Rattle.skip.specs.Walk.{Entry}
 use Rattle.skip.specs.Value.{fields_of, value_of}
 use Rattle.skip.specs.Skip.{room_of}
 use Rattle.skip.proofs.Theorems.{was_spelt}
 use Rattle.wanted.specs.Wanted.{same_id}
-use Rattle.picker.specs.Pick.{Row, kind_alone, row_of, Own, owned, own_from, Last, none, one, last_of, occurs, of_id, of_type, answered, answer}
+use Rattle.picker.specs.Pick.{Row, kind_alone, row_of, Own, owned, own_from, Last, last_of, occurs, of_id, of_type, answered, answer}
 use Rattle.picker.proofs.Went.{Went, went_inside, went_read, Stands, AllStand, all_stand}
 use Rattle.laws.specs.Text.{Plan, Texts}
 use Rattle.laws.specs.Reading.{read_of}
 use Rattle.laws.proofs.Reading.{Gave}
 use Rattle.laws.proofs.Formed.{formed_read}
-use Rattle.unknown.specs.Inserted.{Told, absent, other, told, joined, last_in, kind_in, kind_of}
+use Rattle.unknown.specs.Inserted.{Told, absent, other, told, last_in}
 use Rattle.unknown.proofs.Link.{Link, link_more}
 use Rattle.skip.proofs.Call.{nothing_waits}
 

@@ -1,5 +1,5 @@
 -- Fields put among a struct's own, and what a struct's fields say of a wanted id. Assumes nothing: these are definitions.
-use Rattle.std.specs.Prelude.{ℕ, ◌≡◌, ◌⊎◌, Bool, true, false, cond, List, [], eqb, ℤ}
+use Rattle.std.specs.Prelude.{ℕ, ◌≡◌, ◌⊎◌, Bool, false, cond, List, [], eqb, ℤ}
 use Rattle.types.specs.Codes.{type_code}
 use Rattle.types.specs.Value as val
 use Rattle.types.specs.Value.{Tree, Fields, no_fields, type_of}

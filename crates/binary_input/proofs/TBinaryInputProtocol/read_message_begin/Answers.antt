@@ -1,0 +1,14 @@
+use Rattle.binary_input.proofs.Cases.{message_cases}
+use Rattle.binary_input.proofs.TBinaryInputProtocol.read_message_begin.Goals as goal
+
+pub returns-then-why-ne0 : goal.returns-then-why-ne0
+returns-then-why-ne0 c = search message_cases
+
+pub slice_bounds-read_message_begin-end : goal.slice_bounds-read_message_begin-end
+slice_bounds-read_message_begin-end c = search message_cases
+
+pub returns-in-Refused : goal.returns-in-Refused
+returns-in-Refused c = search message_cases
+
+pub returns-in-Got : goal.returns-in-Got
+returns-in-Got c = search message_cases

@@ -1,0 +1,5 @@
+use Rattle.rows.proofs.Gate.{passing}
+use Rattle.rows.proofs.row.writer_gate.Goals as goal
+
+pub returns : goal.returns
+returns c = search passing
