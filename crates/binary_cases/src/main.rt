@@ -4,14 +4,14 @@
 // stdout.
 #![tactic(auto)]
 
-ghost use Rattle.std.specs.Prelude.{◌≡◌, length, ◌≤◌, ◌<◌};
+ghost use Rattle.std.specs.Prelude.{◌≡◌, length, ◌≤◌, ◌<◌, IfOk};
 
 use binary_input::TBinaryInputProtocol;
 use input::{
     BoolAnswer, DoneAnswer, DoubleAnswer, FieldAnswer, I8Answer, I16Answer, I32Answer, I64Answer,
     ListAnswer, MapAnswer, MessageAnswer, PartAnswer,
 };
-use libc::{STDIN_FILENO, STDOUT_FILENO};
+use std::io;
 use types::{Place, TConfiguration, TType, TypeRead};
 
 // Zeros, by a function that says no more than how many: a proof that sees the array would compute it.
@@ -117,289 +117,283 @@ fn limits(which: usize) -> TConfiguration {
     }
 }
 
-fn tell(n: u64) {
-    io::write_all(STDOUT_FILENO, b" ");
-    io::print_decimal(STDOUT_FILENO, n);
+fn tell(rt: &impl Print, n: u64) -> io::Result<()> {
+    print!(rt; " {n}")
 }
 
-fn refused(why: u8) {
-    io::write_all(STDOUT_FILENO, b"refused");
-    tell(why as u64);
+fn refused(rt: &impl Print, why: u8) -> io::Result<()> {
+    rt.write_all(b"refused")?;
+    tell(rt, why as u64)
 }
 
-fn got() {
-    io::write_all(STDOUT_FILENO, b"got");
+fn got(rt: &impl Print) -> io::Result<()> {
+    rt.write_all(b"got")
 }
 
 // A signed number is told as its bits.
-fn told(state: TBinaryInputProtocol) {
-    io::write_all(STDOUT_FILENO, b" at");
-    tell(state.place.0 as u64);
-    tell(state.begin.0 as u64);
-    tell(state.depth as u64);
-    io::write_all(STDOUT_FILENO, b"\n");
+fn told(rt: &impl Print, state: TBinaryInputProtocol) -> io::Result<()> {
+    rt.write_all(b" at")?;
+    tell(rt, state.place.0 as u64)?;
+    tell(rt, state.begin.0 as u64)?;
+    tell(rt, state.depth as u64)?;
+    rt.write_all(b"\n")
 }
 
-fn tell_kind(kind: TType) {
-    tell(types::type_to_u8(kind) as u64);
+fn tell_kind(rt: &impl Print, kind: TType) -> io::Result<()> {
+    tell(rt, types::type_to_u8(kind) as u64)
 }
 
-fn done(answer: DoneAnswer) {
+fn done(rt: &impl Print, answer: DoneAnswer) -> io::Result<()> {
     match answer {
-        DoneAnswer::Done => got(),
-        DoneAnswer::Refused(why) => refused(why),
+        DoneAnswer::Done => got(rt),
+        DoneAnswer::Refused(why) => refused(rt, why),
     }
 }
 
-fn part(answer: PartAnswer) {
+fn part(rt: &impl Print, answer: PartAnswer) -> io::Result<()> {
     match answer {
         PartAnswer::Got(start, end) => {
-            got();
-            tell(start.0 as u64);
-            tell(end.0 as u64);
+            got(rt)?;
+            tell(rt, start.0 as u64)?;
+            tell(rt, end.0 as u64)
         }
-        PartAnswer::Refused(why) => refused(why),
+        PartAnswer::Refused(why) => refused(rt, why),
     }
 }
 
-fn list(answer: ListAnswer) {
+fn list(rt: &impl Print, answer: ListAnswer) -> io::Result<()> {
     match answer {
         ListAnswer::Got(kind, count) => {
-            got();
-            tell_kind(kind);
-            tell(count as u64);
+            got(rt)?;
+            tell_kind(rt, kind)?;
+            tell(rt, count as u64)
         }
-        ListAnswer::Refused(why) => refused(why),
+        ListAnswer::Refused(why) => refused(rt, why),
     }
 }
 
-fn map(answer: MapAnswer) {
+fn map(rt: &impl Print, answer: MapAnswer) -> io::Result<()> {
     match answer {
         MapAnswer::Got(key, value, count) => {
-            got();
-            tell_kind(key);
-            tell_kind(value);
-            tell(count as u64);
+            got(rt)?;
+            tell_kind(rt, key)?;
+            tell_kind(rt, value)?;
+            tell(rt, count as u64)
         }
-        MapAnswer::Refused(why) => refused(why),
+        MapAnswer::Refused(why) => refused(rt, why),
     }
 }
 
-fn field(answer: FieldAnswer) {
+fn field(rt: &impl Print, answer: FieldAnswer) -> io::Result<()> {
     match answer {
-        FieldAnswer::Stop => {
-            io::write_all(STDOUT_FILENO, b"stop");
-        }
+        FieldAnswer::Stop => rt.write_all(b"stop"),
         FieldAnswer::Field(kind, id) => {
-            got();
-            tell_kind(kind);
-            tell(zigzag::bits16(id.0) as u64);
+            got(rt)?;
+            tell_kind(rt, kind)?;
+            tell(rt, zigzag::bits16(id.0) as u64)
         }
-        FieldAnswer::Refused(why) => refused(why),
+        FieldAnswer::Refused(why) => refused(rt, why),
     }
 }
 
-fn message(answer: MessageAnswer) {
+fn message(rt: &impl Print, answer: MessageAnswer) -> io::Result<()> {
     match answer {
         MessageAnswer::Got(kind, sequence, start, end) => {
-            got();
-            tell(types::message_type_to_u8(kind) as u64);
-            tell(zigzag::bits32(sequence.0) as u64);
-            tell(start.0 as u64);
-            tell(end.0 as u64);
+            got(rt)?;
+            tell(rt, types::message_type_to_u8(kind) as u64)?;
+            tell(rt, zigzag::bits32(sequence.0) as u64)?;
+            tell(rt, start.0 as u64)?;
+            tell(rt, end.0 as u64)
         }
-        MessageAnswer::Refused(why) => refused(why),
+        MessageAnswer::Refused(why) => refused(rt, why),
     }
 }
 
-fn bool_of(answer: BoolAnswer) {
+fn bool_of(rt: &impl Print, answer: BoolAnswer) -> io::Result<()> {
     match answer {
         BoolAnswer::Got(truth) => {
-            got();
-            if truth {
-                tell(1);
-            } else {
-                tell(0);
-            }
+            got(rt)?;
+            if truth { tell(rt, 1) } else { tell(rt, 0) }
         }
-        BoolAnswer::Refused(why) => refused(why),
+        BoolAnswer::Refused(why) => refused(rt, why),
     }
 }
 
-fn i8_of(answer: I8Answer) {
+fn i8_of(rt: &impl Print, answer: I8Answer) -> io::Result<()> {
     match answer {
         I8Answer::Got(n) => {
-            got();
-            tell(zigzag::bits8(n) as u64);
+            got(rt)?;
+            tell(rt, zigzag::bits8(n) as u64)
         }
-        I8Answer::Refused(why) => refused(why),
+        I8Answer::Refused(why) => refused(rt, why),
     }
 }
 
-fn i16_of(answer: I16Answer) {
+fn i16_of(rt: &impl Print, answer: I16Answer) -> io::Result<()> {
     match answer {
         I16Answer::Got(n) => {
-            got();
-            tell(zigzag::bits16(n) as u64);
+            got(rt)?;
+            tell(rt, zigzag::bits16(n) as u64)
         }
-        I16Answer::Refused(why) => refused(why),
+        I16Answer::Refused(why) => refused(rt, why),
     }
 }
 
-fn i32_of(answer: I32Answer) {
+fn i32_of(rt: &impl Print, answer: I32Answer) -> io::Result<()> {
     match answer {
         I32Answer::Got(n) => {
-            got();
-            tell(zigzag::bits32(n) as u64);
+            got(rt)?;
+            tell(rt, zigzag::bits32(n) as u64)
         }
-        I32Answer::Refused(why) => refused(why),
+        I32Answer::Refused(why) => refused(rt, why),
     }
 }
 
-fn i64_of(answer: I64Answer) {
+fn i64_of(rt: &impl Print, answer: I64Answer) -> io::Result<()> {
     match answer {
         I64Answer::Got(n) => {
-            got();
-            tell(big_endian::bits64(n));
+            got(rt)?;
+            tell(rt, big_endian::bits64(n))
         }
-        I64Answer::Refused(why) => refused(why),
+        I64Answer::Refused(why) => refused(rt, why),
     }
 }
 
-fn double_of(answer: DoubleAnswer) {
+fn double_of(rt: &impl Print, answer: DoubleAnswer) -> io::Result<()> {
     match answer {
         DoubleAnswer::Got(bits) => {
-            got();
-            tell(bits);
+            got(rt)?;
+            tell(rt, bits)
         }
-        DoubleAnswer::Refused(why) => refused(why),
+        DoubleAnswer::Refused(why) => refused(rt, why),
     }
 }
 
 // Scalars, by the call's number.
-fn scalar(state: TBinaryInputProtocol, s: &[u8], call: usize) {
+fn scalar(rt: &impl Print, state: TBinaryInputProtocol, s: &[u8], call: usize) -> io::Result<()> {
     match call {
         4 => {
             let r = state.read_bool(s);
             let answer = r.answer;
-            bool_of(answer);
-            told(r.state);
+            bool_of(rt, answer)?;
+            told(rt, r.state)
         }
         5 => {
             let r = state.read_i8(s);
             let answer = r.answer;
-            i8_of(answer);
-            told(r.state);
+            i8_of(rt, answer)?;
+            told(rt, r.state)
         }
         6 => {
             let r = state.read_i16(s);
             let answer = r.answer;
-            i16_of(answer);
-            told(r.state);
+            i16_of(rt, answer)?;
+            told(rt, r.state)
         }
         7 => {
             let r = state.read_i32(s);
             let answer = r.answer;
-            i32_of(answer);
-            told(r.state);
+            i32_of(rt, answer)?;
+            told(rt, r.state)
         }
         8 => {
             let r = state.read_i64(s);
             let answer = r.answer;
-            i64_of(answer);
-            told(r.state);
+            i64_of(rt, answer)?;
+            told(rt, r.state)
         }
         9 => {
             let r = state.read_double(s);
             let answer = r.answer;
-            double_of(answer);
-            told(r.state);
+            double_of(rt, answer)?;
+            told(rt, r.state)
         }
         10 => {
             let r = state.read_uuid(s);
             let answer = r.answer;
-            part(answer);
-            told(r.state);
+            part(rt, answer)?;
+            told(rt, r.state)
         }
         11 => {
             let r = state.read_bytes(s);
             let answer = r.answer;
-            part(answer);
-            told(r.state);
+            part(rt, answer)?;
+            told(rt, r.state)
         }
         _ => {
             let r = state.read_string(s);
             let answer = r.answer;
-            part(answer);
-            told(r.state);
+            part(rt, answer)?;
+            told(rt, r.state)
         }
     }
 }
 
 // Headers and structs; from 20 on a skip of the type of that number less 20.
-fn call(state: TBinaryInputProtocol, s: &[u8], call: usize) {
+fn call(rt: &impl Print, state: TBinaryInputProtocol, s: &[u8], call: usize) -> io::Result<()> {
     match call {
         0 => {
             let r = state.read_message_begin(s);
             let answer = r.answer;
-            message(answer);
-            told(r.state);
+            message(rt, answer)?;
+            told(rt, r.state)
         }
         1 => {
             let r = state.read_field_begin(s);
             let answer = r.answer;
-            field(answer);
-            told(r.state);
+            field(rt, answer)?;
+            told(rt, r.state)
         }
         2 => {
             let r = state.read_list_begin(s);
             let answer = r.answer;
-            list(answer);
-            told(r.state);
+            list(rt, answer)?;
+            told(rt, r.state)
         }
         3 => {
             let r = state.read_map_begin(s);
             let answer = r.answer;
-            map(answer);
-            told(r.state);
+            map(rt, answer)?;
+            told(rt, r.state)
         }
         13 => {
             let r = state.read_struct_begin(s);
             let answer = r.answer;
-            done(answer);
-            told(r.state);
+            done(rt, answer)?;
+            told(rt, r.state)
         }
         14 => {
             let r = state.read_struct_end(s);
             let answer = r.answer;
-            done(answer);
-            told(r.state);
+            done(rt, answer)?;
+            told(rt, r.state)
         }
         _ => {
             if call < 20 {
-                scalar(state, s, call);
+                scalar(rt, state, s, call)
             } else {
-                skipped(state, s, call - 20);
+                skipped(rt, state, s, call - 20)
             }
         }
     }
 }
 
-fn skipped(state: TBinaryInputProtocol, s: &[u8], kind: usize) {
+fn skipped(rt: &impl Print, state: TBinaryInputProtocol, s: &[u8], kind: usize) -> io::Result<()> {
     if kind < 16 {
         match types::u8_to_type(kind as u8) {
             TypeRead::Got(kind) => {
                 let r = state.skip(s, kind);
                 let answer = r.answer;
-                done(answer);
-                told(r.state);
+                done(rt, answer)?;
+                told(rt, r.state)?;
             }
             TypeRead::Refused(_) => {}
         }
     }
+    Ok(())
 }
 
-fn show(line: &[u8], bytes: &[u8]) {
+fn show(rt: &impl Print, line: &[u8], bytes: &[u8]) -> io::Result<()> {
     let a = next_word(line, 0);
     let b = next_word(line, a);
     let c = next_word(line, b);
@@ -411,38 +405,39 @@ fn show(line: &[u8], bytes: &[u8]) {
         limits: limits(number(line, b)),
         begin: Place(number(line, d)),
     };
-    call(state, bytes, number(line, a));
+    call(rt, state, bytes, number(line, a))
 }
 
 // One case; the place behind it, which is the input's end where the case is cut short.
-fn one_case(s: &[u8], p: usize) -> usize
+fn one_case(rt: &impl Print, s: &[u8], p: usize) -> io::Result<usize>
     requires { p < length s.now }
-    ensures { p < result }
+    ensures { IfOk result (λ z. p < z) }
 {
     let e = line_end(s, p);
     if s.len() <= e {
-        return s.len();
+        return Ok(s.len());
     }
     let a = e + 1;
     let n = number(s, p);
-    io::write_all(STDOUT_FILENO, &s[p..a]);
+    rt.write_all(&s[p..a])?;
     if s.len() - a < n {
-        return s.len();
+        return Ok(s.len());
     }
     let z = a + n;
-    show(&s[p..e], &s[a..z]);
-    z
+    show(rt, &s[p..e], &s[a..z])?;
+    Ok(z)
 }
 
-fn run(s: &[u8]) {
+fn run(rt: &impl Print, s: &[u8]) -> io::Result<()> {
     let mut p: usize = 0;
     while p < s.len() {
-        p = one_case(s, p);
+        p = one_case(rt, s, p)?;
     }
+    Ok(())
 }
 
-fn main() {
+fn main(rt: HostRuntime) -> io::Result<()> {
     let mut input = file_room();
-    let n = io::read_full(STDIN_FILENO, &mut input);
-    run(&input[..n]);
+    let n = system::read_full(&mut rt.stdin(), &mut input);
+    run(&rt, &input[..n])
 }

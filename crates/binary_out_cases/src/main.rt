@@ -7,13 +7,13 @@
 // last, so that a refused call is seen to have kept it.
 #![tactic(auto)]
 
-ghost use Rattle.std.specs.Prelude.{◌≡◌, length, ◌≤◌, ◌<◌};
-ghost use Rattle.io.specs.Counts.{IsPrefixLen};
+ghost use Rattle.std.specs.Prelude.{◌≡◌, length, ◌≤◌, ◌<◌, IfOk};
+ghost use Rattle.system.specs.Counts.{IsPrefixLen};
 
 use binary_output::{BinaryWritten, TBinaryOutputProtocol};
-use libc::{STDIN_FILENO, STDOUT_FILENO};
 use numbers::{Bits32, Bits64};
 use output::WriteAnswer;
+use std::io;
 use types::{
     FieldId, MessageTypeRead, Place, SeqNo, TConfiguration, TMessageType, TType, TypeRead,
 };
@@ -209,27 +209,27 @@ fn fill(buf: &mut [u8]) {
     }
 }
 
-fn over(buf: &mut [u8], s: &[u8]) {
+fn over(rt: &impl Print, buf: &mut [u8], s: &[u8]) -> io::Result<()> {
     fill(buf);
     let mut out = text_room();
     let a = calls(state_of(s), buf, s, &mut out);
     let b = text::put_bytes(&mut out, a, buf);
     let c = text::put_byte(&mut out, b, b'\n');
     let k = within(c, &out);
-    io::write_all(STDOUT_FILENO, &out[..k]);
+    rt.write_all(&out[..k])
 }
 
 // A row over so many bytes, where there are as many.
-fn first(space: &mut [u8], room: usize, s: &[u8]) {
+fn first(rt: &impl Print, space: &mut [u8], room: usize, s: &[u8]) -> io::Result<()> {
     if space.len() < room {
-        return;
+        return Ok(());
     }
-    over(&mut space[..room], s);
+    over(rt, &mut space[..room], s)
 }
 
-fn show(s: &[u8]) {
-    let mut space = io::buffer();
-    first(&mut space, size_at(s, 28), s);
+fn show(rt: &impl Print, s: &[u8]) -> io::Result<()> {
+    let mut space = system::buffer();
+    first(rt, &mut space, size_at(s, 28), s)
 }
 
 // The place of the line's end, or the input's.
@@ -276,34 +276,35 @@ fn number(s: &[u8], from: usize) -> usize
 }
 
 // One frame; the place behind it, which is the input's end where the frame is cut short.
-fn frame(s: &[u8], p: usize) -> usize
+fn frame(rt: &impl Print, s: &[u8], p: usize) -> io::Result<usize>
     requires { p < length s.now }
-    ensures { p < result }
+    ensures { IfOk result (λ z. p < z) }
 {
     let e = line_end(s, p);
     if s.len() <= e {
-        return s.len();
+        return Ok(s.len());
     }
     let a = e + 1;
     let n = number(s, p);
-    io::write_all(STDOUT_FILENO, &s[p..a]);
+    rt.write_all(&s[p..a])?;
     if s.len() - a < n {
-        return s.len();
+        return Ok(s.len());
     }
     let z = a + n;
-    show(&s[a..z]);
-    z
+    show(rt, &s[a..z])?;
+    Ok(z)
 }
 
-fn run(s: &[u8]) {
+fn run(rt: &impl Print, s: &[u8]) -> io::Result<()> {
     let mut p: usize = 0;
     while p < s.len() {
-        p = frame(s, p);
+        p = frame(rt, s, p)?;
     }
+    Ok(())
 }
 
-fn main() {
+fn main(rt: HostRuntime) -> io::Result<()> {
     let mut input = file_room();
-    let n = io::read_full(STDIN_FILENO, &mut input);
-    run(&input[..n]);
+    let n = system::read_full(&mut rt.stdin(), &mut input);
+    run(&rt, &input[..n])
 }

@@ -4,12 +4,14 @@
 // on standard error, and nothing is written then.
 #![tactic(auto)]
 
-ghost use Rattle.std.specs.Prelude.{◌≡◌, length, ◌≤◌, ◌<◌};
-ghost use Rattle.io.specs.Counts.{IsPrefixLen};
+ghost use Rattle.std.specs.Prelude.{◌≡◌, length, ◌≤◌, ◌<◌, IfOk};
+ghost use Rattle.system.specs.Counts.{IsPrefixLen};
 
 use days::Checked;
-use libc::{STDERR_FILENO, STDOUT_FILENO};
 use numbers::Wrote;
+use std::io;
+use std::io::Read;
+use std::rt::{Env, Files};
 
 // Rooms, by functions that say no more than how many: a proof that sees the array would compute it.
 fn file_room() -> [u8; 3145728]
@@ -50,54 +52,58 @@ fn within_ends(n: usize, ends: &[usize]) -> usize
 }
 
 // What is wrong, and with what.
-fn complain(what: &[u8], words: &[u8]) {
-    io::write_all(STDERR_FILENO, b"day: ");
-    io::write_all(STDERR_FILENO, what);
-    io::write_all(STDERR_FILENO, words);
+fn complain(err: &impl Print, what: &[u8], words: &[u8]) -> io::Result<()> {
+    err.write_all(b"day: ")?;
+    err.write_all(what)?;
+    err.write_all(words)
 }
 
-fn put_out(bytes: &[u8]) -> bool {
-    let is_written = io::write_all(STDOUT_FILENO, bytes);
-    if !is_written {
-        os::fail(b"day: standard output");
+fn put_out(rt: &impl Print, err: &impl Print, bytes: &[u8]) -> io::Result<bool> {
+    match rt.write_all(bytes) {
+        Ok(()) => Ok(true),
+        Err(e) => {
+            system::fail(err, b"day: standard output", &e)?;
+            Ok(false)
+        }
     }
-    is_written
 }
 
 // Whether the file ends here. A read that fails, and a file that goes on, are said.
-fn ends_here(fd: i32, path: &[u8]) -> bool {
-    let mut more = io::buffer();
-    let got = libc::read(fd, &mut more);
-    if got < 0 {
-        os::fail(path);
-        return false;
+fn ends_here(file: &mut impl Read, err: &impl Print, path: &[u8]) -> io::Result<bool> {
+    let mut more = system::buffer();
+    match file.read(&mut more) {
+        Err(e) => {
+            system::fail(err, path, &e)?;
+            Ok(false)
+        }
+        Ok(0) => Ok(true),
+        Ok(_) => {
+            complain(err, path, b": does not fit, 3145728 bytes are the most\n")?;
+            Ok(false)
+        }
     }
-    if 0 < got {
-        complain(path, b": does not fit, 3145728 bytes are the most\n");
-        return false;
-    }
-    true
 }
 
 // The whole file at the buffer's start, and how many bytes it has: 0 where it is refused, which is said, as is an empty file.
-fn load(path: &[u8], buf: &mut [u8]) -> usize
-    ensures { IsPrefixLen result buf.new }
+fn load(rt: &impl Files, err: &impl Print, path: &[u8], buf: &mut [u8]) -> io::Result<usize>
+    ensures { IfOk result (λ n. IsPrefixLen n buf.new) }
 {
-    let fd = os::open_read(path);
-    if fd < 0 {
-        os::fail(path);
-        return 0;
-    }
-    let n = io::read_full(fd, buf);
-    let is_whole = ends_here(fd, path);
-    libc::close(fd);
+    let mut file = match system::open(rt, path) {
+        Ok(file) => file,
+        Err(e) => {
+            system::fail(err, path, &e)?;
+            return Ok(0);
+        }
+    };
+    let n = system::read_full(&mut file, buf);
+    let is_whole = ends_here(&mut file, err, path)?;
     if !is_whole {
-        return 0;
+        return Ok(0);
     }
     if n == 0 {
-        complain(path, b": is empty\n");
+        complain(err, path, b": is empty\n")?;
     }
-    n
+    Ok(n)
 }
 
 // The line of message k: its header, or whether it is good.
@@ -109,32 +115,52 @@ fn line_of(file: &[u8], k: usize, line: &mut [u8], is_fault: bool) -> usize {
 }
 
 // One line; whether it was written. One that fills the buffer may have been cut off, and is not written.
-fn list_line(file: &[u8], k: usize, line: &mut [u8], is_fault: bool) -> bool {
+fn list_line(
+    rt: &impl Print,
+    err: &impl Print,
+    file: &[u8],
+    k: usize,
+    line: &mut [u8],
+    is_fault: bool,
+) -> io::Result<bool> {
     let n = line_of(file, k, line, is_fault);
     if line.len() <= n {
-        complain(b"a line", b" does not fit\n");
-        return false;
+        complain(err, b"a line", b" does not fit\n")?;
+        return Ok(false);
     }
     let e = within(n, line);
-    put_out(&line[..e])
+    put_out(rt, err, &line[..e])
 }
 
-fn list_lines(file: &[u8], count: usize, is_fault: bool) {
+fn list_lines(
+    rt: &impl Print,
+    err: &impl Print,
+    file: &[u8],
+    count: usize,
+    is_fault: bool,
+) -> io::Result<()> {
     let mut line = line_room();
     let mut k: usize = 0;
     while k < count {
-        let is_written = list_line(file, k, &mut line, is_fault);
+        let is_written = list_line(rt, err, file, k, &mut line, is_fault)?;
         if !is_written {
-            return;
+            return Ok(());
         }
         k = k + 1;
     }
+    Ok(())
 }
 
-fn list(path: &[u8], file: &[u8], is_fault: bool) {
+fn list(
+    rt: &impl Print,
+    err: &impl Print,
+    path: &[u8],
+    file: &[u8],
+    is_fault: bool,
+) -> io::Result<()> {
     match days::check_day(file) {
-        Checked::Count(count) => list_lines(file, count, is_fault),
-        Checked::Refused(_) => complain(path, b": refused 18, no day file\n"),
+        Checked::Count(count) => list_lines(rt, err, file, count, is_fault),
+        Checked::Refused(_) => complain(err, path, b": refused 18, no day file\n"),
     }
 }
 
@@ -167,46 +193,55 @@ fn number(word: &[u8]) -> usize
     n
 }
 
-fn get(path: &[u8], file: &[u8], k: usize) {
+fn get(rt: &impl Print, err: &impl Print, path: &[u8], file: &[u8], k: usize) -> io::Result<()> {
     match days::check_day(file) {
         Checked::Count(_) => {
             let message = days::message(file, k);
             if message.len() == 0 {
-                complain(path, b": refused 18, no message of this number\n");
-                return;
+                return complain(err, path, b": refused 18, no message of this number\n");
             }
-            put_out(message);
+            put_out(rt, err, message)?;
+            Ok(())
         }
-        Checked::Refused(_) => complain(path, b": refused 18, no day file\n"),
+        Checked::Refused(_) => complain(err, path, b": refused 18, no day file\n"),
     }
 }
 
 // An argument, whole, at the buffer's start; 0 where there is none or an empty one, which is said.
-fn word(i: usize, buf: &mut [u8]) -> usize
-    ensures { IsPrefixLen result buf.new }
+fn word(rt: &impl Env, err: &impl Print, i: usize, buf: &mut [u8]) -> io::Result<usize>
+    ensures { IfOk result (λ n. IsPrefixLen n buf.new) }
 {
-    let n = os::arg(i, buf);
-    if os::errno() != 0 {
-        os::fail(b"day: argument");
-        return 0;
+    match system::argument(rt, i, buf) {
+        Ok(n) => {
+            if n == 0 {
+                complain(err, b"an argument", b" is empty\n")?;
+            }
+            Ok(n)
+        }
+        Err(e) => {
+            system::fail(err, b"day: argument", &e)?;
+            Ok(0)
+        }
     }
-    if n == 0 {
-        complain(b"an argument", b" is empty\n");
-    }
-    n
 }
 
 // The file of argument i, behind what stands in the buffer; the place behind it, or the same place where it is refused.
-fn add(i: usize, bytes: &mut [u8], at: usize) -> usize
-    ensures { result ≤ length bytes.new }
+fn add<R: Env + Files>(
+    rt: &R,
+    err: &impl Print,
+    i: usize,
+    bytes: &mut [u8],
+    at: usize,
+) -> io::Result<usize>
+    ensures { IfOk result (λ n. n ≤ length bytes.new) }
 {
-    let mut path = io::buffer();
-    let k = word(i, &mut path);
+    let mut path = system::buffer();
+    let k = word(rt, err, i, &mut path)?;
     if bytes.len() < at {
-        return 0;
+        return Ok(0);
     }
-    let n = load(&path[..k], &mut bytes[at..]);
-    at + n
+    let n = load(rt, err, &path[..k], &mut bytes[at..])?;
+    Ok(at + n)
 }
 
 fn keep(ends: &mut [usize], i: usize, end: usize) {
@@ -216,49 +251,73 @@ fn keep(ends: &mut [usize], i: usize, end: usize) {
 }
 
 // Every file that is named, one behind the other, with its end. The place behind the last; 0 where one is refused, or none named.
-fn gather(files: usize, bytes: &mut [u8], ends: &mut [usize]) -> usize
+fn gather<R: Env + Files>(
+    rt: &R,
+    err: &impl Print,
+    files: usize,
+    bytes: &mut [u8],
+    ends: &mut [usize],
+) -> io::Result<usize>
     requires { files ≤ 4096 }
 {
     let mut at: usize = 0;
     let mut i: usize = 0;
     while i < files {
-        let end = add(i + 2, bytes, at);
+        let end = add(rt, err, i + 2, bytes, at)?;
         if end <= at {
-            return 0;
+            return Ok(0);
         }
         keep(ends, i, end);
         at = end;
         i = i + 1;
     }
-    at
+    Ok(at)
 }
 
 // The day of what was gathered.
-fn write(bytes: &[u8], ends: &[usize], out: &mut [u8]) {
+fn write(
+    rt: &impl Print,
+    err: &impl Print,
+    bytes: &[u8],
+    ends: &[usize],
+    out: &mut [u8],
+) -> io::Result<()> {
     match days::write_day(out, bytes, ends) {
         Wrote::To(n) => {
             let k = within(n, out);
-            put_out(&out[..k]);
+            put_out(rt, err, &out[..k])?;
+            Ok(())
         }
-        Wrote::Refused(_) => complain(b"the day", b" does not fit, 3145728 bytes are the most\n"),
+        Wrote::Refused(_) => {
+            complain(
+                err,
+                b"the day",
+                b" does not fit, 3145728 bytes are the most\n",
+            )
+        }
     }
 }
 
-fn pack(files: usize, bytes: &mut [u8], out: &mut [u8]) {
+fn pack<R: Env + Files + Print>(
+    rt: &R,
+    err: &impl Print,
+    files: usize,
+    bytes: &mut [u8],
+    out: &mut [u8],
+) -> io::Result<()> {
     let mut ends = ends_room();
     if 4096 < files {
-        complain(b"the day", b": refused 18, more than 4096 messages\n");
-        return;
+        return complain(err, b"the day", b": refused 18, more than 4096 messages\n");
     }
-    let at = gather(files, bytes, &mut ends);
+    let at = gather(rt, err, files, bytes, &mut ends)?;
     if at == 0 {
         if 0 < files {
-            return;
+            return Ok(());
         }
     }
     let e = within(at, bytes);
     let f = within_ends(files, &ends);
-    write(&bytes[..e], &ends[..f], out);
+    write(rt, err, &bytes[..e], &ends[..f], out)
 }
 
 // Whether two words are the same.
@@ -279,67 +338,74 @@ fn is_same(a: &[u8], b: &[u8]) -> bool {
 }
 
 // `list`, `fault` and `get`: the file is the second argument.
-fn look(verb: &[u8], bytes: &mut [u8]) {
-    let mut path = io::buffer();
-    let k = word(2, &mut path);
+fn look<R: Env + Files + Print>(
+    rt: &R,
+    err: &impl Print,
+    verb: &[u8],
+    bytes: &mut [u8],
+) -> io::Result<()> {
+    let mut path = system::buffer();
+    let k = word(rt, err, 2, &mut path)?;
     if k == 0 {
-        return;
+        return Ok(());
     }
-    let n = load(&path[..k], bytes);
+    let n = load(rt, err, &path[..k], bytes)?;
     if n == 0 {
-        return;
+        return Ok(());
     }
     if is_same(verb, b"list") {
-        list(&path[..k], &bytes[..n], false);
-        return;
+        return list(rt, err, &path[..k], &bytes[..n], false);
     }
     if is_same(verb, b"fault") {
-        list(&path[..k], &bytes[..n], true);
-        return;
+        return list(rt, err, &path[..k], &bytes[..n], true);
     }
-    let mut digits = io::buffer();
-    let d = word(3, &mut digits);
+    let mut digits = system::buffer();
+    let d = word(rt, err, 3, &mut digits)?;
     if d == 0 {
-        return;
+        return Ok(());
     }
-    get(&path[..k], &bytes[..n], number(&digits[..d]));
+    get(rt, err, &path[..k], &bytes[..n], number(&digits[..d]))
 }
 
-fn run(verb: &[u8], files: usize) {
+fn run<R: Env + Files + Print>(
+    rt: &R,
+    err: &impl Print,
+    verb: &[u8],
+    files: usize,
+) -> io::Result<()> {
     let mut bytes = file_room();
     if is_same(verb, b"pack") {
         let mut out = file_room();
-        pack(files, &mut bytes, &mut out);
-        return;
+        return pack(rt, err, files, &mut bytes, &mut out);
     }
     if is_same(verb, b"list") {
-        look(verb, &mut bytes);
-        return;
+        return look(rt, err, verb, &mut bytes);
     }
     if is_same(verb, b"fault") {
-        look(verb, &mut bytes);
-        return;
+        return look(rt, err, verb, &mut bytes);
     }
     if is_same(verb, b"get") {
-        look(verb, &mut bytes);
-        return;
+        return look(rt, err, verb, &mut bytes);
     }
     complain(
+        err,
         b"list FILE",
         b" | fault FILE | get FILE NUMBER | pack FILE...\n",
-    );
+    )
 }
 
-fn files_named() -> usize {
-    let n = os::arg_count();
+// More than a day has messages count as one more.
+fn files_named(rt: &impl Env) -> usize {
+    let n = system::argument_count(rt, 4099);
     if n < 2 {
         return 0;
     }
     n - 2
 }
 
-fn main() {
-    let mut verb = io::buffer();
-    let k = word(1, &mut verb);
-    run(&verb[..k], files_named());
+fn main(rt: HostRuntime) -> io::Result<()> {
+    let err = rt.stderr();
+    let mut verb = system::buffer();
+    let k = word(&rt, &err, 1, &mut verb)?;
+    run(&rt, &err, &verb[..k], files_named(&rt))
 }

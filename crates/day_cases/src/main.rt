@@ -6,12 +6,12 @@
 // ends, each 4 bytes, the ends, 8 bytes each, and the messages' bytes.
 #![tactic(auto)]
 
-ghost use Rattle.std.specs.Prelude.{◌≡◌, length, ◌≤◌, ◌<◌};
-ghost use Rattle.io.specs.Counts.{IsPrefixLen};
+ghost use Rattle.std.specs.Prelude.{◌≡◌, length, ◌≤◌, ◌<◌, IfOk};
+ghost use Rattle.system.specs.Counts.{IsPrefixLen};
 
 use days::{Checked, Part};
-use libc::{STDIN_FILENO, STDOUT_FILENO};
 use numbers::{Bits32, Bits64, Wrote};
+use std::io;
 
 // Rooms, by functions that say no more than how many: a proof that sees the array would compute it.
 fn file_room() -> [u8; 262144]
@@ -178,26 +178,26 @@ fn put_write(text: &mut [u8], out: &mut [u8], bytes: &[u8], ends: &[usize], coun
     lines::put_part(text, a, out)
 }
 
-fn show_file(file: &[u8]) {
+fn show_file(rt: &impl Print, file: &[u8]) -> io::Result<()> {
     let mut out = file_room();
     let n = put_file(&mut out, file);
     let k = within(n, &out);
-    io::write_all(STDOUT_FILENO, &out[..k]);
+    rt.write_all(&out[..k])
 }
 
-fn show_write(s: &[u8]) {
+fn show_write(rt: &impl Print, s: &[u8]) -> io::Result<()> {
     let mut ends = ends_room();
     let count = number_at(s, 4);
     let at = read_ends(s, count, &mut ends);
     if s.len() < at {
-        return;
+        return Ok(());
     }
     let mut out = out_room();
     let room = within(number_at(s, 0), &out);
     let mut text = file_room();
     let n = put_write(&mut text, &mut out[..room], &s[at..], &ends, count);
     let k = within(n, &text);
-    io::write_all(STDOUT_FILENO, &text[..k]);
+    rt.write_all(&text[..k])
 }
 
 // The place of the line's end, or the input's.
@@ -252,38 +252,39 @@ fn is_write(line: &[u8]) -> bool {
 }
 
 // One frame; the place behind it, which is the input's end where the frame is cut short.
-fn frame(s: &[u8], p: usize) -> usize
+fn frame(rt: &impl Print, s: &[u8], p: usize) -> io::Result<usize>
     requires { p < length s.now }
-    ensures { p < result }
+    ensures { IfOk result (λ z. p < z) }
 {
     let e = line_end(s, p);
     if s.len() <= e {
-        return s.len();
+        return Ok(s.len());
     }
     let a = e + 1;
     let n = number(s, p);
-    io::write_all(STDOUT_FILENO, &s[p..a]);
+    rt.write_all(&s[p..a])?;
     if s.len() - a < n {
-        return s.len();
+        return Ok(s.len());
     }
     let z = a + n;
     if is_write(&s[p..a]) {
-        show_write(&s[a..z]);
+        show_write(rt, &s[a..z])?;
     } else {
-        show_file(&s[a..z]);
+        show_file(rt, &s[a..z])?;
     }
-    z
+    Ok(z)
 }
 
-fn run(s: &[u8]) {
+fn run(rt: &impl Print, s: &[u8]) -> io::Result<()> {
     let mut p: usize = 0;
     while p < s.len() {
-        p = frame(s, p);
+        p = frame(rt, s, p)?;
     }
+    Ok(())
 }
 
-fn main() {
+fn main(rt: HostRuntime) -> io::Result<()> {
     let mut input = file_room();
-    let n = io::read_full(STDIN_FILENO, &mut input);
-    run(&input[..n]);
+    let n = system::read_full(&mut rt.stdin(), &mut input);
+    run(&rt, &input[..n])
 }

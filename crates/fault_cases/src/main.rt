@@ -8,12 +8,12 @@
 // the first lines are written.
 #![tactic(auto)]
 
-ghost use Rattle.std.specs.Prelude.{◌≡◌, length, ◌≤◌, ◌<◌};
-ghost use Rattle.io.specs.Counts.{IsPrefixLen};
+ghost use Rattle.std.specs.Prelude.{◌≡◌, length, ◌≤◌, ◌<◌, IfOk};
+ghost use Rattle.system.specs.Counts.{IsPrefixLen};
 
 use input::{Awaited, Pending, TCompactInputProtocol};
-use libc::{STDIN_FILENO, STDOUT_FILENO};
 use numbers::Bits32;
+use std::io;
 use types::{FieldId, Place, TConfiguration};
 
 // Rooms, by functions that say no more than how many: a proof that sees the array would compute it.
@@ -77,21 +77,21 @@ fn state_of(s: &[u8]) -> TCompactInputProtocol {
     }
 }
 
-fn show_struct(s: &[u8]) {
+fn show_struct(rt: &impl Print, s: &[u8]) -> io::Result<()> {
     if s.len() < 32 {
-        return;
+        return Ok(());
     }
     let mut out = text_room();
     let n = fault_lines::put_struct(&mut out, 0, state_of(s), &s[32..], false);
     let k = within(n, &out);
-    io::write_all(STDOUT_FILENO, &out[..k]);
+    rt.write_all(&out[..k])
 }
 
-fn show_message(s: &[u8]) {
+fn show_message(rt: &impl Print, s: &[u8]) -> io::Result<()> {
     let mut out = text_room();
     let n = fault_lines::put_fault(&mut out, 0, s, true);
     let k = within(n, &out);
-    io::write_all(STDOUT_FILENO, &out[..k]);
+    rt.write_all(&out[..k])
 }
 
 fn put_first(out: &mut [u8], file: &[u8]) -> usize {
@@ -108,12 +108,12 @@ fn put_last(out: &mut [u8], to: usize, file: &[u8]) -> usize {
     fault_lines::put_day_fault(out, c, file, 7)
 }
 
-fn show_day(file: &[u8]) {
+fn show_day(rt: &impl Print, file: &[u8]) -> io::Result<()> {
     let mut out = text_room();
     let a = put_first(&mut out, file);
     let b = put_last(&mut out, a, file);
     let k = within(b, &out);
-    io::write_all(STDOUT_FILENO, &out[..k]);
+    rt.write_all(&out[..k])
 }
 
 // The place of the line's end, or the input's.
@@ -167,43 +167,44 @@ fn kind(line: &[u8]) -> u8 {
     line[6]
 }
 
-fn show(kind: u8, s: &[u8]) {
+fn show(rt: &impl Print, kind: u8, s: &[u8]) -> io::Result<()> {
     match kind {
-        b's' => show_struct(s),
-        b'd' => show_day(s),
-        _ => show_message(s),
+        b's' => show_struct(rt, s),
+        b'd' => show_day(rt, s),
+        _ => show_message(rt, s),
     }
 }
 
 // One frame; the place behind it, which is the input's end where the frame is cut short.
-fn frame(s: &[u8], p: usize) -> usize
+fn frame(rt: &impl Print, s: &[u8], p: usize) -> io::Result<usize>
     requires { p < length s.now }
-    ensures { p < result }
+    ensures { IfOk result (λ z. p < z) }
 {
     let e = line_end(s, p);
     if s.len() <= e {
-        return s.len();
+        return Ok(s.len());
     }
     let a = e + 1;
     let n = number(s, p);
-    io::write_all(STDOUT_FILENO, &s[p..a]);
+    rt.write_all(&s[p..a])?;
     if s.len() - a < n {
-        return s.len();
+        return Ok(s.len());
     }
     let z = a + n;
-    show(kind(&s[p..a]), &s[a..z]);
-    z
+    show(rt, kind(&s[p..a]), &s[a..z])?;
+    Ok(z)
 }
 
-fn run(s: &[u8]) {
+fn run(rt: &impl Print, s: &[u8]) -> io::Result<()> {
     let mut p: usize = 0;
     while p < s.len() {
-        p = frame(s, p);
+        p = frame(rt, s, p)?;
     }
+    Ok(())
 }
 
-fn main() {
+fn main(rt: HostRuntime) -> io::Result<()> {
     let mut input = file_room();
-    let n = io::read_full(STDIN_FILENO, &mut input);
-    run(&input[..n]);
+    let n = system::read_full(&mut rt.stdin(), &mut input);
+    run(&rt, &input[..n])
 }

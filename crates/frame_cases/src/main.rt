@@ -3,10 +3,10 @@
 // empty burst before it. What the crate's own skip answered, in the same form, is the file stdout.
 #![tactic(auto)]
 
-ghost use Rattle.std.specs.Prelude.{◌≡◌, length, ◌≤◌, ◌<◌};
+ghost use Rattle.std.specs.Prelude.{◌≡◌, length, ◌≤◌, ◌<◌, IfOk};
 
 use frame::{FrameAnswer, FrameSkip};
-use libc::{STDIN_FILENO, STDOUT_FILENO};
+use std::io;
 use types::TConfiguration;
 
 // Zeros, by a function that says no more than how many: a proof that sees the array would compute it.
@@ -97,56 +97,51 @@ fn fed(bytes: &[u8], step: usize) -> FrameAnswer
     closed.answer
 }
 
-fn tell(answer: FrameAnswer) {
+fn tell(rt: &impl Print, answer: FrameAnswer) -> io::Result<()> {
     match answer {
         FrameAnswer::More => {}
-        FrameAnswer::Done(used) => {
-            io::write_all(STDOUT_FILENO, b"done ");
-            io::print_decimal(STDOUT_FILENO, used as u64);
-        }
-        FrameAnswer::Refused(why) => {
-            io::write_all(STDOUT_FILENO, b"refused ");
-            io::print_decimal(STDOUT_FILENO, why as u64);
-        }
+        FrameAnswer::Done(used) => print!(rt; "done {used}")?,
+        FrameAnswer::Refused(why) => print!(rt; "refused {why}")?,
     }
-    io::write_all(STDOUT_FILENO, b"\n");
+    rt.write_all(b"\n")
 }
 
-fn show(bytes: &[u8]) {
-    tell(fed(bytes, 262_144));
-    tell(fed(bytes, 5));
-    tell(fed(bytes, 1));
+fn show(rt: &impl Print, bytes: &[u8]) -> io::Result<()> {
+    tell(rt, fed(bytes, 262_144))?;
+    tell(rt, fed(bytes, 5))?;
+    tell(rt, fed(bytes, 1))
 }
 
 // One frame; the place behind it, which is the input's end where the frame is cut short.
-fn frame(s: &[u8], p: usize) -> usize
+fn frame(rt: &impl Print, s: &[u8], p: usize) -> io::Result<usize>
     requires { p < length s.now }
-    ensures { p < result }
+    ensures { IfOk result (λ z. p < z) }
 {
     let e = line_end(s, p);
     if s.len() <= e {
-        return s.len();
+        return Ok(s.len());
     }
     let a = e + 1;
     let n = number(s, p);
-    io::write_all(STDOUT_FILENO, &s[p..a]);
+    rt.write_all(&s[p..a])?;
     if s.len() - a < n {
-        return s.len();
+        return Ok(s.len());
     }
     let z = a + n;
-    show(&s[a..z]);
-    z
+    show(rt, &s[a..z])?;
+    Ok(z)
 }
 
-fn run(s: &[u8]) {
+fn run(rt: &impl Print, s: &[u8]) -> io::Result<()> {
     let mut p: usize = 0;
     while p < s.len() {
-        p = frame(s, p);
+        p = frame(rt, s, p)?;
     }
+    Ok(())
 }
 
-fn main() {
+fn main(rt: HostRuntime) -> io::Result<()> {
     let mut input = file_room();
-    let n = io::read_full(STDIN_FILENO, &mut input);
-    run(&input[..n]);
+    let n = system::read_full(&mut rt.stdin(), &mut input);
+    run(&rt, &input[..n])
 }

@@ -3,7 +3,8 @@
 #![tactic(auto)]
 
 use frame::{FrameAnswer, FrameSkip, Taken};
-use libc::{STDERR_FILENO, STDIN_FILENO, STDOUT_FILENO};
+use std::io;
+use std::io::Read;
 use types::TConfiguration;
 
 #[derive(Clone, Copy)]
@@ -22,12 +23,12 @@ fn limits() -> TConfiguration {
 }
 
 // One byte of the first line: a line end or nothing more is no digit.
-fn next_byte() -> u8 {
+fn next_byte(input: &mut impl Read) -> u8 {
     let mut byte = [0u8; 1];
-    if libc::read(STDIN_FILENO, &mut byte) <= 0 {
-        return 0;
+    match input.read(&mut byte) {
+        Ok(0) | Err(_) => 0,
+        Ok(_) => byte[0],
     }
-    byte[0]
 }
 
 // The number with one more digit, where it is one and there is room for it.
@@ -45,11 +46,11 @@ fn longer(value: usize, b: u8) -> Length {
 }
 
 // The first line: at least one digit, no other byte, and a line end.
-fn read_length() -> Length {
+fn read_length(input: &mut impl Read) -> Length {
     let mut value = 0;
     let mut digits: u8 = 0;
     while digits < 20 {
-        let b = next_byte();
+        let b = next_byte(input);
         if b == b'\n' {
             break;
         }
@@ -73,14 +74,12 @@ fn read_length() -> Length {
 }
 
 // One read, and what comes with it. No more input is a close.
-fn next_burst(state: FrameSkip) -> Taken {
-    let mut buf = io::large_buffer();
-    let got = libc::read(STDIN_FILENO, &mut buf);
-    if got <= 0 {
-        return state.close();
+fn next_burst(input: &mut impl Read, state: FrameSkip) -> Taken {
+    let mut buf = system::large_buffer();
+    match input.read(&mut buf) {
+        Ok(0) | Err(_) => state.close(),
+        Ok(n) => state.take(&buf[..n]),
     }
-    let n = io::count(got, &buf);
-    state.take(&buf[..n])
 }
 
 fn is_final(answer: FrameAnswer) -> bool {
@@ -92,7 +91,7 @@ fn is_final(answer: FrameAnswer) -> bool {
 }
 
 // An empty burst first: some frames have their answer with the announcement. A read brings a byte or the end, so the turns outlast any frame.
-fn listen(length: usize) -> FrameAnswer {
+fn listen(input: &mut impl Read, length: usize) -> FrameAnswer {
     let state = FrameSkip::announce(length, limits());
     let mut taken = state.take(b"");
     let mut turns: u64 = 4_294_967_296;
@@ -102,38 +101,24 @@ fn listen(length: usize) -> FrameAnswer {
             return answer;
         }
         let next = taken.state;
-        taken = next_burst(next);
+        taken = next_burst(input, next);
         turns -= 1;
     }
     taken.answer
 }
 
-fn tell(answer: FrameAnswer) {
+fn tell(rt: &impl Print, answer: FrameAnswer) -> io::Result<()> {
     match answer {
-        FrameAnswer::More => {}
-        FrameAnswer::Done(used) => {
-            io::write_all(STDOUT_FILENO, b"done ");
-            io::print_decimal(STDOUT_FILENO, used as u64);
-            io::write_all(STDOUT_FILENO, b"\n");
-        }
-        FrameAnswer::Refused(why) => {
-            io::write_all(STDOUT_FILENO, b"refused ");
-            io::print_decimal(STDOUT_FILENO, why as u64);
-            io::write_all(STDOUT_FILENO, b"\n");
-        }
+        FrameAnswer::More => Ok(()),
+        FrameAnswer::Done(used) => println!(rt; "done {used}"),
+        FrameAnswer::Refused(why) => println!(rt; "refused {why}"),
     }
 }
 
-fn main() {
-    match read_length() {
-        Length::Missing => {
-            io::write_all(
-                STDERR_FILENO,
-                b"frames: the first line must be the frame's length\n",
-            );
-        }
-        Length::Got(length) => {
-            tell(listen(length));
-        }
+fn main(rt: HostRuntime) -> io::Result<()> {
+    let mut input = rt.stdin();
+    match read_length(&mut input) {
+        Length::Missing => eprintln!(rt; "frames: the first line must be the frame's length"),
+        Length::Got(length) => tell(&rt, listen(&mut input, length)),
     }
 }

@@ -3,11 +3,11 @@
 // printed, in the same form, is the file stdout.
 #![tactic(auto)]
 
-ghost use Rattle.std.specs.Prelude.{◌≡◌, length, ◌≤◌, ◌<◌};
-ghost use Rattle.io.specs.Counts.{IsPrefixLen};
+ghost use Rattle.std.specs.Prelude.{◌≡◌, length, ◌≤◌, ◌<◌, IfOk};
+ghost use Rattle.system.specs.Counts.{IsPrefixLen};
 
-use libc::{STDIN_FILENO, STDOUT_FILENO};
 use printer::Text;
+use std::io;
 
 // Zeros, by functions that say no more than how many: a proof that sees the array would compute it.
 fn file_room() -> [u8; 262144]
@@ -83,42 +83,43 @@ fn number(s: &[u8], from: usize) -> usize
     n
 }
 
-fn show(bytes: &[u8]) {
+fn show(rt: &impl Print, bytes: &[u8]) -> io::Result<()> {
     let mut out = text_room();
     let answer = printer::print(bytes, &mut out);
     let k = written(answer, &out);
-    io::write_all(STDOUT_FILENO, &out[..k]);
+    rt.write_all(&out[..k])
 }
 
 // One frame; the place behind it, which is the input's end where the frame is cut short.
-fn frame(s: &[u8], p: usize) -> usize
+fn frame(rt: &impl Print, s: &[u8], p: usize) -> io::Result<usize>
     requires { p < length s.now }
-    ensures { p < result }
+    ensures { IfOk result (λ z. p < z) }
 {
     let e = line_end(s, p);
     if s.len() <= e {
-        return s.len();
+        return Ok(s.len());
     }
     let a = e + 1;
     let n = number(s, p);
-    io::write_all(STDOUT_FILENO, &s[p..a]);
+    rt.write_all(&s[p..a])?;
     if s.len() - a < n {
-        return s.len();
+        return Ok(s.len());
     }
     let z = a + n;
-    show(&s[a..z]);
-    z
+    show(rt, &s[a..z])?;
+    Ok(z)
 }
 
-fn run(s: &[u8]) {
+fn run(rt: &impl Print, s: &[u8]) -> io::Result<()> {
     let mut p: usize = 0;
     while p < s.len() {
-        p = frame(s, p);
+        p = frame(rt, s, p)?;
     }
+    Ok(())
 }
 
-fn main() {
+fn main(rt: HostRuntime) -> io::Result<()> {
     let mut input = file_room();
-    let n = io::read_full(STDIN_FILENO, &mut input);
-    run(&input[..n]);
+    let n = system::read_full(&mut rt.stdin(), &mut input);
+    run(&rt, &input[..n])
 }

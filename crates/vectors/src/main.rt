@@ -10,7 +10,7 @@ mod utf8_cases;
 mod words;
 mod writer;
 
-use libc::STDIN_FILENO;
+use std::io;
 
 // The groups, by their names' bytes. Another crate's cases are one more group.
 const READ: u64 = 0x72656164;
@@ -29,41 +29,42 @@ const READER: u64 = 0x726561646572;
 
 const WRITER: u64 = 0x777269746572;
 
-fn answer(line: &[u8]) {
+fn answer(rt: &impl Print, line: &[u8]) -> io::Result<()> {
     match words::name(line, 0) {
-        READ => number_cases::read(line),
-        WRITE => number_cases::write(line),
-        UTF8 => utf8_cases::passes(line),
-        GAP => utf8_cases::gap(line),
-        CALL => call_cases::call(line),
-        SKIP => call_cases::skip(line),
-        READER => call_cases::row(line),
-        WRITER => writer::row(line),
-        _ => say::text(b" ?"),
+        READ => number_cases::read(rt, line),
+        WRITE => number_cases::write(rt, line),
+        UTF8 => utf8_cases::passes(rt, line),
+        GAP => utf8_cases::gap(rt, line),
+        CALL => call_cases::call(rt, line),
+        SKIP => call_cases::skip(rt, line),
+        READER => call_cases::row(rt, line),
+        WRITER => writer::row(rt, line),
+        _ => say::text(rt, b" ?"),
     }
 }
 
-fn case(line: &[u8]) {
-    if say::asks(line) {
-        answer(line);
+fn case(rt: &impl Print, line: &[u8]) -> io::Result<()> {
+    if say::asks(rt, line)? {
+        answer(rt, line)?;
     }
-    say::text(b"\n");
+    say::text(rt, b"\n")
 }
 
-fn run(s: &[u8]) {
+fn run(rt: &impl Print, s: &[u8]) -> io::Result<()> {
     let mut p: usize = 0;
     while p < s.len() {
         let e = words::find(s, p, b'\n');
-        case(words::part(s, p, e));
+        case(rt, words::part(s, p, e))?;
         if s.len() <= e {
-            return;
+            return Ok(());
         }
         p = e + 1;
     }
+    Ok(())
 }
 
-fn main() {
+fn main(rt: HostRuntime) -> io::Result<()> {
     let mut input = words::room();
-    let n = io::read_full(STDIN_FILENO, &mut input);
-    run(&input[..n]);
+    let n = system::read_full(&mut rt.stdin(), &mut input);
+    run(&rt, &input[..n])
 }

@@ -3,6 +3,7 @@ use crate::say::Answer;
 use crate::words::{DOUBLE, I8, I16, I32, I64};
 use crate::{say, words};
 use numbers::{Bits64, Int16, Varint32, Varint64, Wrote};
+use std::io;
 
 // The bare varints, by their names' bytes; the other kinds of number are in `words`.
 const U32: u64 = 0x753332;
@@ -10,11 +11,14 @@ const U32: u64 = 0x753332;
 const U64: u64 = 0x753634;
 
 // `read KIND BYTES PLACE`: the number read at the place of these bytes, and the place behind it. Without a PLACE it is 0.
-pub(crate) fn read(line: &[u8]) {
-    let mut room = io::buffer();
+pub(crate) fn read(rt: &impl Print, line: &[u8]) -> io::Result<()> {
+    let mut room = system::buffer();
     let n = words::bytes(line, 2, &mut room, 0);
     let at = words::number(line, 3) as usize;
-    say::all_of(read_at(words::name(line, 1), words::part(&room, 0, n), at));
+    say::all_of(
+        rt,
+        read_at(words::name(line, 1), words::part(&room, 0, n), at),
+    )
 }
 
 fn read_at(kind: u64, s: &[u8], at: usize) -> Answer {
@@ -75,13 +79,13 @@ fn read_double(s: &[u8], at: usize) -> Answer {
 }
 
 // `write KIND NUMBER PLACE`: the bytes written at the place of a buffer of 16. Without a PLACE it is 0.
-pub(crate) fn write(line: &[u8]) {
+pub(crate) fn write(rt: &impl Print, line: &[u8]) -> io::Result<()> {
     let item = item_of(words::name(line, 1), line);
     let at = words::number(line, 3) as usize;
     let mut room = [0u8; 16];
     match write_at(item, &mut room, at) {
-        Wrote::To(p) => say::bytes(words::part(&room, at, p)),
-        Wrote::Refused(n) => say::all_of(Answer::Refused(n)),
+        Wrote::To(p) => say::bytes(rt, words::part(&room, at, p)),
+        Wrote::Refused(n) => say::all_of(rt, Answer::Refused(n)),
     }
 }
 

@@ -1,5 +1,5 @@
 // Writing a case and its answer to standard output. Each part of an answer comes with a space before it.
-use libc::STDOUT_FILENO;
+use std::io;
 
 // What a call answers. No refusal has the number 0: it stands for a case that is not known.
 #[derive(Clone, Copy)]
@@ -11,57 +11,55 @@ pub(crate) enum Answer {
 }
 
 // The number, a double's bits being 16 hex digits, and the place behind it; or the refusal's number.
-pub(crate) fn all_of(a: Answer) {
+pub(crate) fn all_of(rt: &impl Print, a: Answer) -> io::Result<()> {
     match a {
         Answer::Number(n, p) => {
-            number(n);
-            number(p as u64);
+            number(rt, n)?;
+            number(rt, p as u64)
         }
         Answer::Signed(n, p) => {
-            signed(n);
-            number(p as u64);
+            signed(rt, n)?;
+            number(rt, p as u64)
         }
         Answer::Bits(n, p) => {
-            text(b" ");
-            io::print_hex(STDOUT_FILENO, n, 16);
-            number(p as u64);
+            print!(rt; " {n:016x}")?;
+            number(rt, p as u64)
         }
         Answer::Refused(n) => {
-            text(b" refused");
-            number(n as u64);
+            text(rt, b" refused")?;
+            number(rt, n as u64)
         }
     }
 }
 
 // Writes a line again; whether it is a case that asks for an answer, ` =` standing behind it then. An empty line and one that begins with # are none.
-pub(crate) fn asks(line: &[u8]) -> bool {
-    text(line);
+pub(crate) fn asks(rt: &impl Print, line: &[u8]) -> io::Result<bool> {
+    text(rt, line)?;
     if line.len() == 0 {
-        return false;
+        return Ok(false);
     }
     if line[0] == b'#' {
-        return false;
+        return Ok(false);
     }
-    text(b" =");
-    true
+    text(rt, b" =")?;
+    Ok(true)
 }
 
-pub(crate) fn text(s: &[u8]) {
-    io::write_all(STDOUT_FILENO, s);
+pub(crate) fn text(rt: &impl Print, s: &[u8]) -> io::Result<()> {
+    rt.write_all(s)
 }
 
-pub(crate) fn number(n: u64) {
-    text(b" ");
-    io::print_decimal(STDOUT_FILENO, n);
+pub(crate) fn number(rt: &impl Print, n: u64) -> io::Result<()> {
+    print!(rt; " {n}")
 }
 
-pub(crate) fn signed(n: i64) {
+pub(crate) fn signed(rt: &impl Print, n: i64) -> io::Result<()> {
     if 0 <= n {
-        text(b" ");
+        text(rt, b" ")?;
     } else {
-        text(b" -");
+        text(rt, b" -")?;
     }
-    io::print_decimal(STDOUT_FILENO, distance(n));
+    rt.print(distance(n))
 }
 
 // How far a number is from 0.
@@ -72,33 +70,33 @@ fn distance(n: i64) -> u64 {
     (!n) as u64 + 1
 }
 
-pub(crate) fn truth(yes: bool) {
+pub(crate) fn truth(rt: &impl Print, yes: bool) -> io::Result<()> {
     if yes {
-        text(b" yes");
+        text(rt, b" yes")
     } else {
-        text(b" no");
+        text(rt, b" no")
     }
 }
 
 // A byte as two hex digits.
-pub(crate) fn byte(b: u8) {
-    io::print_hex(STDOUT_FILENO, b as u64, 2);
+pub(crate) fn byte(rt: &impl Print, b: u8) -> io::Result<()> {
+    print!(rt; "{b:02x}")
 }
 
 // Bytes as hex, `-` where there are none.
-pub(crate) fn bytes(s: &[u8]) {
+pub(crate) fn bytes(rt: &impl Print, s: &[u8]) -> io::Result<()> {
     if s.len() == 0 {
-        text(b" -");
-        return;
+        return text(rt, b" -");
     }
-    text(b" ");
-    hex(s);
+    text(rt, b" ")?;
+    hex(rt, s)
 }
 
-fn hex(s: &[u8]) {
+fn hex(rt: &impl Print, s: &[u8]) -> io::Result<()> {
     let mut i: usize = 0;
     while i < s.len() {
-        byte(s[i]);
+        byte(rt, s[i])?;
         i += 1;
     }
+    Ok(())
 }

@@ -1,23 +1,24 @@
 // The cases of crate utf8.
 use crate::{say, words};
+use std::io;
 
 // `utf8 BYTES`: whether these bytes pass.
-pub(crate) fn passes(line: &[u8]) {
-    let mut room = io::buffer();
+pub(crate) fn passes(rt: &impl Print, line: &[u8]) -> io::Result<()> {
+    let mut room = system::buffer();
     let n = words::bytes(line, 1, &mut room, 0);
-    say::truth(utf8::is_utf8(words::part(&room, 0, n)));
+    say::truth(rt, utf8::is_utf8(words::part(&room, 0, n)))
 }
 
 // `gap BYTES BYTES`: which of the 256 bytes pass when they stand between these, as ranges.
-pub(crate) fn gap(line: &[u8]) {
-    let mut room = io::buffer();
+pub(crate) fn gap(rt: &impl Print, line: &[u8]) -> io::Result<()> {
+    let mut room = system::buffer();
     let n = words::bytes(line, 1, &mut room, 0);
     let e = words::bytes(line, 2, &mut room, std::num::wrapping_add_usize(n, 1));
-    ranges(&mut room, n, e);
+    ranges(rt, &mut room, n, e)
 }
 
 // The bytes that pass at place n of the row up to e: ` 80-8f a0-a0`.
-fn ranges(row: &mut [u8], n: usize, e: usize) {
+fn ranges(rt: &impl Print, row: &mut [u8], n: usize, e: usize) -> io::Result<()> {
     let mut any = false;
     let mut open = false;
     let mut b: u64 = 0;
@@ -26,15 +27,15 @@ fn ranges(row: &mut [u8], n: usize, e: usize) {
         if pass {
             any = true;
         }
-        edge(b, open, pass);
+        edge(rt, b, open, pass)?;
         open = pass;
         b += 1;
     }
-    edge(b, open, false);
+    edge(rt, b, open, false)?;
     if any {
-        return;
+        return Ok(());
     }
-    say::text(b" none");
+    say::text(rt, b" none")
 }
 
 fn passes_with(row: &mut [u8], n: usize, e: usize, b: u64) -> bool {
@@ -46,15 +47,14 @@ fn passes_with(row: &mut [u8], n: usize, e: usize, b: u64) -> bool {
 }
 
 // What is said at byte b: a range's begin, its end at the byte before, or nothing.
-fn edge(b: u64, open: bool, pass: bool) {
+fn edge(rt: &impl Print, b: u64, open: bool, pass: bool) -> io::Result<()> {
     if pass == open {
-        return;
+        return Ok(());
     }
     if pass {
-        say::text(b" ");
-        say::byte((b % 256) as u8);
-        return;
+        say::text(rt, b" ")?;
+        return say::byte(rt, (b % 256) as u8);
     }
-    say::text(b"-");
-    say::byte((std::num::wrapping_sub_u64(b, 1) % 256) as u8);
+    say::text(rt, b"-")?;
+    say::byte(rt, (std::num::wrapping_sub_u64(b, 1) % 256) as u8)
 }

@@ -10,6 +10,7 @@ use crate::words::{
 };
 use crate::{say, words};
 use output::{TCompactOutputProtocol, WriteAnswer, Written};
+use std::io;
 use types::{FieldId, MessageTypeRead, Place, SeqNo, TMessageType, TType, TypeRead};
 
 // The calls of the writer alone, by their names' bytes. The words behind a name are its arguments.
@@ -22,23 +23,28 @@ const DEPTH: u64 = 0x6465707468;
 
 const MARK: u8 = 0xaa;
 
-pub(crate) fn row(line: &[u8]) {
-    let mut space = io::large_buffer();
+pub(crate) fn row(rt: &impl Print, line: &[u8]) -> io::Result<()> {
+    let mut space = system::large_buffer();
     let room = words::number(line, 4) as usize;
-    first(&mut space, room, line);
+    first(rt, &mut space, room, line)
 }
 
 // A row over so many bytes, where there are as many.
-fn first(space: &mut [u8], room: usize, line: &[u8]) {
+fn first(rt: &impl Print, space: &mut [u8], room: usize, line: &[u8]) -> io::Result<()> {
     if space.len() < room {
-        return;
+        return Ok(());
     }
-    over(&mut space[..room], line);
+    over(rt, &mut space[..room], line)
 }
 
-fn over(buf: &mut [u8], line: &[u8]) {
+fn over(rt: &impl Print, buf: &mut [u8], line: &[u8]) -> io::Result<()> {
     fill(buf);
-    calls(TCompactOutputProtocol::new(words::limits(line)), buf, line);
+    calls(
+        rt,
+        TCompactOutputProtocol::new(words::limits(line)),
+        buf,
+        line,
+    )
 }
 
 fn fill(buf: &mut [u8]) {
@@ -50,7 +56,12 @@ fn fill(buf: &mut [u8]) {
 }
 
 // The calls from the fifth word on; a line of more than a thousand words ends there.
-fn calls(st: TCompactOutputProtocol, buf: &mut [u8], line: &[u8]) {
+fn calls(
+    rt: &impl Print,
+    st: TCompactOutputProtocol,
+    buf: &mut [u8],
+    line: &[u8],
+) -> io::Result<()> {
     let mut state = st;
     let mut i: usize = 5;
     while i < 1000 {
@@ -61,16 +72,16 @@ fn calls(st: TCompactOutputProtocol, buf: &mut [u8], line: &[u8]) {
         let r = call(state, buf, name, line, i + 1);
         let answer = r.answer;
         state = r.state;
-        told(answer, state.place.0);
+        told(rt, answer, state.place.0)?;
         i += 1 + arity(name);
     }
-    say::bytes(buf);
+    say::bytes(rt, buf)
 }
 
-fn told(answer: WriteAnswer, place: usize) {
+fn told(rt: &impl Print, answer: WriteAnswer, place: usize) -> io::Result<()> {
     match answer {
-        WriteAnswer::Written => say::number(place as u64),
-        WriteAnswer::Refused(why) => say::all_of(Answer::Refused(why)),
+        WriteAnswer::Written => say::number(rt, place as u64),
+        WriteAnswer::Refused(why) => say::all_of(rt, Answer::Refused(why)),
     }
 }
 
@@ -175,7 +186,7 @@ fn put_ceiling(st: TCompactOutputProtocol, name: u64, n: usize) -> Written {
 fn message(st: TCompactOutputProtocol, buf: &mut [u8], line: &[u8], i: usize) -> Written
     requires { i ≤ 1000 }
 {
-    let mut space = io::large_buffer();
+    let mut space = system::large_buffer();
     let n = words::bytes(line, i + 2, &mut space, 0);
     let sequence = SeqNo(words::signed32(line, i + 1));
     st.write_message_begin(
@@ -193,7 +204,7 @@ fn uuid(st: TCompactOutputProtocol, buf: &mut [u8], line: &[u8], i: usize) -> Wr
 }
 
 fn text(st: TCompactOutputProtocol, buf: &mut [u8], name: u64, line: &[u8], i: usize) -> Written {
-    let mut space = io::large_buffer();
+    let mut space = system::large_buffer();
     let n = words::bytes(line, i, &mut space, 0);
     let bytes = words::part(&space, 0, n);
     if name == BYTES {
