@@ -1,6 +1,6 @@
 -- What the binary writer writes reads back: the bytes of each header and scalar are read, whatever follows them, as what was written, to their end.
 -- Assumes nothing.
-use mathlib.Core.Path.{◌≡◌, refl, sym, ap, subst, ◌∙◌}
+use mathlib.Core.Path.{◌≡◌, refl, ap, subst, ◌∙◌}
 use mathlib.Core.Bool.{Bool, true, false}
 use mathlib.Core.List.{List, [], ◌∷◌, ◌++◌}
 use Prim.Native.Nat.{ℕ, ◌+◌, ◌/◌, ◌%◌, ◌^◌, ◌≤◌, ◌<◌}
@@ -22,11 +22,11 @@ use Rattle.types.specs.declared.TConfiguration.{TConfiguration}
 use Rattle.types.proofs.Codes.{message_by_number_lem}
 use Rattle.types.proofs.Limits.{Ranged}
 use Rattle.utf8.specs.Utf8.{utf8}
-use Rattle.heads.specs.Reader.{done, and_then, provided, byte, some}
+use Rattle.heads.specs.Reader.{done, byte, some}
 use Rattle.heads.specs.Heads.{typed, counted, listed, message_typed, stop, value}
 use Rattle.output.proofs.Back.{Reads, then_reads, then_quiet, done_reads, byte_reads, provided_reads, some_reads}
 use Rattle.puts.proofs.Pieces.{kind_below}
-use Rattle.big_endian.specs.Big.{big, big_of, big2, big4, big8}
+use Rattle.big_endian.specs.Big.{big_of, big2, big4, big8}
 use Rattle.big_endian.proofs.Big.{big_long, big_of_lem}
 use Rattle.binary_codes.specs.Codes.{binary_code, by_binary_code}
 use Rattle.binary_codes.proofs.Codes.{by_code}

@@ -1,11 +1,10 @@
 -- Samples, computed: the bytes of the published tests of the Rust's binary protocol, and a message that meets every premise of the laws. Assumes nothing.
 use mathlib.Core.Path.{◌≡◌, refl}
 use mathlib.Core.Bool.{true}
-use mathlib.Core.List.{List, [], ◌∷◌}
-use Prim.Native.Nat.{ℕ}
+use mathlib.Core.List.{[], ◌∷◌}
 use native.Mathlib.Omega.{arith}
 use lib.IntN.{pos, negsuc}
-use lib.ListN.{length, replicate}
+use lib.ListN.{replicate}
 use Rattle.types.specs.Codes.{message_code}
 use Rattle.types.specs.Limits.{in_range, defaults}
 use Rattle.types.specs.declared.TType.TheVariants as T

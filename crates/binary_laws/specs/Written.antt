@@ -1,6 +1,6 @@
 -- The bytes of a value as the binary writer's calls write it, call by call in the order of the value's grammar. The value that can be read back is `readable`
 -- of crate laws: an empty map is written with Stop for its types. Assumes nothing: these are definitions.
-use Rattle.std.specs.Prelude.{ℕ, List, [], ◌∷◌, ◌++◌, ℤ}
+use Rattle.std.specs.Prelude.{ℕ, List, [], ◌∷◌, ◌++◌}
 use Rattle.std.specs.Int.{w8}
 use Rattle.std.proofs.Common.{of_z}
 use Rattle.types.specs.declared.TMessageType.{TMessageType}

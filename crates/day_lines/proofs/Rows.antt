@@ -1,16 +1,14 @@
 -- The line, piece by piece: what the code knows at each return. Assumes nothing.
-use mathlib.Core.Path.{◌≡◌, refl, sym, ap, ◌∙◌}
-use mathlib.Core.List.{List, ◌++◌}
+use mathlib.Core.Path.{◌≡◌, sym, ap, ◌∙◌}
+use mathlib.Core.List.{List}
 use lib.ListN.{length}
 use Prim.Native.Nat.{ℕ}
-use Rattle.types.specs.declared.TConfiguration.{TConfiguration}
 use Rattle.types.specs.declared.TMessageType.{TMessageType}
 use Rattle.types.specs.declared.SeqNo.{SeqNo}
 use Rattle.types.specs.declared.Place.{Place}
 use Rattle.input.specs.State.{State, fresh}
 use Rattle.input.specs.Calls.{read_message, name_part}
 use Rattle.input.specs.declared.ReadMessage.{ReadMessage}
-use Rattle.input.specs.declared.MessageAnswer.{MessageAnswer}
 use Rattle.input.specs.declared.MessageAnswer.TheVariants as H
 use Rattle.text.specs.Pen.{Pen, inked}
 use Rattle.text.specs.Words.{ascii, decimal}
@@ -19,7 +17,7 @@ use Rattle.lines.specs.Lines.{message, refusal, line}
 use Rattle.days.specs.Day.{message_of, part_of}
 use Rattle.days.specs.declared.Part.{Part}
 use Rattle.days.specs.declared.Part.TheVariants as P
-use Rattle.day_lines.specs.Listed.{limits, to_item, head_item, spaced, line_of, day_line}
+use Rattle.day_lines.specs.Listed.{limits, head_item, spaced, line_of, day_line}
 
 -- put_number
 pub number_spaced : (p a q : Pen) (n k : ℕ) → a ≡ inked (decimal k) p → k ≡ n → q ≡ inked (ascii " ") a → q ≡ inked (spaced n) p

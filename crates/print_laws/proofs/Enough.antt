@@ -1,7 +1,7 @@
 -- The printing program's room is always enough: every line is paid for by the bytes that were read before it. Assumes nothing.
-use mathlib.Core.Path.{◌≡◌, refl, sym, ap, ap₂, subst, ◌∙◌}
+use mathlib.Core.Path.{◌≡◌, refl, sym, ap, ap₂, ◌∙◌}
 use mathlib.Core.Bool.{Bool, true, false, cond}
-use mathlib.Core.List.{List, [], ◌∷◌, ◌++◌, append_assoc, append-nil}
+use mathlib.Core.List.{List, [], ◌∷◌, ◌++◌, append-nil}
 use Prim.Native.Nat.{ℕ, zero, suc, ◌+◌, ◌-◌, ◌*◌, ◌/◌, ◌%◌, ◌≤◌, ◌<◌}
 use native.Mathlib.Nat.{add-zero}
 use native.Mathlib.Numerals.{add-one}
@@ -22,12 +22,10 @@ use Rattle.numbers.specs.Varint.{Found, got, refused, placed}
 use Rattle.heads.specs.Reader.{Reader, done, refuse, read_at}
 use Rattle.heads.specs.Heads as heads
 use Rattle.heads.specs.Heads.{int8, int16, int32, int64, double, uuid, truth, binary, items_head, pairs_head, Field}
-use Rattle.heads.proofs.Lawful.{Lawful, Takes, not_both}
-use Rattle.heads.proofs.Steps.{found_at}
+use Rattle.heads.proofs.Lawful.{Lawful, Takes}
 use Rattle.heads.proofs.Ahead.{Fair, lawful_fair, items_head_fair, items_head_takes, pairs_head_fair, pairs_head_takes}
 use Rattle.heads.proofs.Readers.{int8_lawful, int8_takes, int16_lawful, int16_takes, int32_lawful, int32_takes, int64_lawful, int64_takes, double_lawful, double_takes, uuid_lawful, uuid_takes, truth_lawful, truth_takes, binary_lawful, binary_takes, field_lawful, field_takes, message_lawful, message_takes}
-use Rattle.skip.specs.Value.{startable}
-use Rattle.scalars.specs.Scalars.{scalar_of, bits_of}
+use Rattle.scalars.specs.Scalars.{bits_of}
 use Rattle.scalars.specs.declared.Scalar.{Scalar}
 use Rattle.scalars.specs.declared.Scalar.TheVariants as S
 use Rattle.text.specs.Pen.{Pen, dot, inked}
@@ -35,9 +33,8 @@ use Rattle.text.specs.Words.{ascii, digit, digits, decimal, signed, hex_digit, h
 use Rattle.lines.specs.Lines as row
 use Rattle.lines.specs.Lines.{Item, line, lines, scalar_text, spaced_type, spaced_int, last_number, last_bytes}
 use Rattle.printer.specs.Telling.{Told, Teller, quiet, aloud, onward_t, then_tell, making, provided_t, voiced}
-use Rattle.printer.specs.Value.{row_told, many_told, pair_told, add_pair, pairs_told, items_told, map_told, behind_told, walk_told, fields_told, struct_told, Boxes, shut_told, roomy_told, shaped_told, value_told}
+use Rattle.printer.specs.Value.{row_told, pair_told, add_pair, items_told, map_told, behind_told, walk_told, fields_told, struct_told, Boxes, shut_told, roomy_told, shaped_told, value_told}
 use Rattle.printer.specs.Printing.{message_told, limits, ending, whole, report, text_of, written, print_call}
-use Rattle.printer.specs.declared.Text.{Text}
 use Rattle.printer.specs.declared.Text.TheVariants as X
 use Rattle.printer.proofs.Prints.{lines_append}
 use Rattle.heads.proofs.Tails.{binary_tail, uuid_tail, message_tail}

@@ -1,29 +1,28 @@
 -- The printing program's text: of a message whose struct is well formed, the lines of its tree and then `end`; else the number that skip gives there.
 -- Assumes nothing.
-use mathlib.Core.Path.{◌≡◌, refl, sym, ap, ap₂, ◌∙◌}
+use mathlib.Core.Path.{◌≡◌, ap, ap₂, ◌∙◌}
 use mathlib.Core.List.{List, [], ◌∷◌, ◌++◌}
-use Prim.Native.Nat.{ℕ, ◌+◌, ◌-◌, ◌≤◌}
+use Prim.Native.Nat.{ℕ, ◌-◌, ◌≤◌}
 use borrow.Author.Tests.{le-ltb}
 use lib.ListN.{length, drop}
-use Rattle.types.specs.declared.Place.{Place}
 use Rattle.types.specs.declared.TType.TheVariants as T
-use Rattle.types.specs.Value.{Tree, type_of}
+use Rattle.types.specs.Value.{Tree}
 use Rattle.numbers.specs.Varint.{Found, got, refused, placed}
-use Rattle.heads.specs.Reader.{Reader, read_at}
+use Rattle.heads.specs.Reader.{read_at}
 use Rattle.heads.specs.Heads.{Message, message}
 use Rattle.heads.specs.Spells.{Formed}
 use Rattle.heads.specs.Answers.{place}
-use Rattle.heads.proofs.Steps.{found_at, lost_at}
+use Rattle.heads.proofs.Steps.{found_at}
 use Rattle.skip.specs.Value.{value_of}
-use Rattle.skip.specs.Skip.{past, skip_of}
-use Rattle.skip.specs.declared.Skipped.TheVariants.{Done, Refused}
+use Rattle.skip.specs.Skip.{skip_of}
+use Rattle.skip.specs.declared.Skipped.TheVariants.{Refused}
 use Rattle.skip.proofs.Past.{read_past, refused_past}
 use Rattle.skip.proofs.Theorems.{skip_exact}
 use Rattle.lines.specs.Lines as row
 use Rattle.lines.specs.Lines.{Item, lines}
-use Rattle.printer.specs.Telling.{Told, Teller, quiet, aloud, onward_t, then_tell}
+use Rattle.printer.specs.Telling.{Told, quiet, aloud, then_tell}
 use Rattle.printer.specs.Value.{value_told}
-use Rattle.printer.specs.Printing.{message_told, limits, ending, whole, report, text_of}
+use Rattle.printer.specs.Printing.{message_told, limits, ending, whole, report}
 use Rattle.printer.proofs.Same.{value_finds}
 use Rattle.print_laws.specs.Tree.{items_of}
 use Rattle.print_laws.proofs.Tale.{value_tale}

@@ -1,9 +1,7 @@
 -- The text, at each return. Assumes nothing.
-use mathlib.Core.Path.{◌≡◌, refl, sym, ap, ◌∙◌}
-use mathlib.Core.Bool.{Bool, true, false, cond}
-use mathlib.Core.List.{List, ◌++◌}
+use mathlib.Core.Path.{◌≡◌, sym, ap, ◌∙◌}
+use mathlib.Core.List.{List}
 use Prim.Native.Nat.{ℕ, ◌≤◌, ◌<◌}
-use native.Mathlib.Omega.{arith}
 use borrow.Author.Tests.{lt-ltb, le-ltb}
 use lib.ListN.{length}
 use Rattle.types.specs.Refusals.{NO_ROOM}
@@ -17,7 +15,7 @@ use Rattle.input.specs.declared.MessageAnswer.TheVariants as M
 use Rattle.input.specs.declared.ReadMessage.{ReadMessage}
 use Rattle.text.specs.Pen.{Pen, inked}
 use Rattle.text.specs.Words.{ascii, decimal}
-use Rattle.text.proofs.Inks.{inked_two, same_length}
+use Rattle.text.proofs.Inks.{inked_two}
 use Rattle.lines.specs.Lines.{line, refusal}
 use Rattle.single.specs.declared.Counts.{Counts}
 use Rattle.doubles.specs.Calls.{counts_call}

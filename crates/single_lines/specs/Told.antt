@@ -1,5 +1,5 @@
 -- What the program says of a message's doubles: "`yes N no N nan N` or `refused N`". Assumes nothing: these are definitions.
-use Rattle.std.specs.Prelude.{ℕ, cond, List, [], ◌++◌, ltb, eqb, length}
+use Rattle.std.specs.Prelude.{ℕ, cond, List, ◌++◌, ltb, length}
 use Rattle.types.specs.Refusals.{NO_ROOM}
 use Rattle.types.specs.declared.TConfiguration.{TConfiguration}
 use Rattle.input.specs.State.{State, fresh}

@@ -1,6 +1,6 @@
 -- What the calls of a frame leave, at each of their returns. Assumes nothing.
-use mathlib.Core.Path.{◌≡◌, refl, sym, subst, ◌∙◌}
-use mathlib.Core.Bool.{Bool, true, false, cond}
+use mathlib.Core.Path.{◌≡◌, subst}
+use mathlib.Core.Bool.{Bool, true, false}
 use mathlib.Core.List.{List}
 use Prim.Native.Nat.{ℕ}
 use borrow.Author.Tests.{eq-eqb, ne_eqb}
@@ -9,7 +9,6 @@ use Rattle.types.specs.Limits.{in_range}
 use Rattle.types.specs.Refusals.{BAD_STATE}
 use Rattle.types.specs.declared.TConfiguration.{TConfiguration}
 use Rattle.frame.specs.declared.FrameSkip.{FrameSkip}
-use Rattle.frame.specs.declared.FrameAnswer.{FrameAnswer}
 use Rattle.frame.specs.declared.FrameAnswer.TheVariants as A
 use Rattle.frame.specs.declared.Taken.{Taken}
 use Rattle.frame.specs.State.{Begins, Took, close_of}

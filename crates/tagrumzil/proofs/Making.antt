@@ -39,7 +39,7 @@ use Rattle.puts.proofs.Pieces.{code_below, truth_below}
 use Rattle.puts.proofs.Checks.{both_none}
 use Rattle.puts.proofs.Deltas.{wide, wide_fits}
 use Rattle.output.specs.State.{State, unsound, turn, in_turn, begun_here, moved_to, headed, awaiting, cut_of}
-use Rattle.output.specs.Calls.{Call, call, refused_by, written, settled, size_wrong, writes, leaves, message_call, field_call, bool_call, truth_call, items_call, pairs_call}
+use Rattle.output.specs.Calls.{Call, call, refused_by, written, settled, size_wrong, message_call, field_call, bool_call, truth_call, items_call, pairs_call}
 use Rattle.output.specs.declared.AwaitedField.{AwaitedField}
 use Rattle.output.specs.declared.AwaitedField.TheVariants as A
 use Rattle.output.proofs.Checks.{unsized, turn_over}

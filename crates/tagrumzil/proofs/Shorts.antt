@@ -1,12 +1,12 @@
 -- A field's header of one byte, from the byte's row into the state's row and the caller's room. Assumes nothing.
-use mathlib.Core.Path.{◌≡◌, refl, sym, ap, subst, ◌∙◌}
+use mathlib.Core.Path.{◌≡◌, refl, sym, ap, ◌∙◌}
 use mathlib.Core.Bool.{Bool, true, false}
 use mathlib.Core.List.{List}
-use Prim.Native.Nat.{ℕ, ◌+◌, ◌*◌, ◌-◌, ◌/◌, ◌%◌, ◌≤◌, ◌<◌, min}
+use Prim.Native.Nat.{ℕ, ◌+◌, ◌*◌, ◌/◌, ◌%◌, ◌≤◌, ◌<◌}
 use native.Mathlib.Omega.{arith}
 use borrow.Author.Rules.{sfits_of}
 use lib.IntN.{ℤ, pos, ◌+ℤ◌}
-use lib.ListN.{length, get_or, set, take}
+use lib.ListN.{length, get_or, set}
 use lib.Signed.{lt_z}
 use mir.Syntax.{w16, w32}
 use mir.Val.{SFits, to_z, of_z}
@@ -16,9 +16,7 @@ use Rattle.types.specs.declared.FieldType.{FieldType}
 use Rattle.types.specs.declared.FieldType.TheVariants as FT
 use Rattle.tables.specs.Rows.{field_row, row_type}
 use Rattle.puts.proofs.Pieces.{code_below}
-use Rattle.heads.specs.Answers.{place, field_at, head_of, head_at}
-use Rattle.heads.specs.declared.FieldHead.{FieldHead}
-use Rattle.heads.specs.declared.FieldHead.TheVariants as F
+use Rattle.heads.specs.Answers.{head_of, head_at}
 use Rattle.heads.proofs.Fields as heads
 use Rattle.heads.proofs.Fields.{byte_below, row_typed, delta_four, delta_wide, code_sum, id_wide, id_is, id_fits, id_back, sum16}
 use Rattle.rows.specs.Row.{turn_of}

@@ -1,20 +1,17 @@
 -- What the calls that ask for an f32 leave, at each of their returns: the state that the row holds is the one that is read from it. Assumes nothing.
-use mathlib.Core.Path.{◌≡◌, refl, ap, subst, ◌∙◌}
+use mathlib.Core.Path.{◌≡◌, ap, subst, ◌∙◌}
 use mathlib.Core.List.{List}
 use Prim.Native.Nat.{ℕ}
 use Rattle.input.specs.State.{State}
 use Rattle.input.specs.declared.DoneAnswer.TheVariants as N
-use Rattle.input.specs.declared.ReadDone.{ReadDone}
 use Rattle.rows.specs.Reads.{ToldDone}
 use Rattle.single.specs.declared.Counts.{Counts}
 use Rattle.doubles.specs.Calls.{counts_call, row_call, answered_row}
-use Rattle.doubles.specs.declared.CountsAnswer.{CountsAnswer}
 use Rattle.doubles.specs.declared.CountsAnswer.TheVariants as C
 use Rattle.doubles.specs.declared.ReadCounts.{ReadCounts}
-use Rattle.doubles.specs.declared.RowAnswer.{RowAnswer}
 use Rattle.doubles.specs.declared.RowAnswer.TheVariants as R
 use Rattle.doubles.specs.declared.ReadRow.{ReadRow}
-use Rattle.tagrumzil.specs.Single.{counts_done, ToldCounts, row_done, ToldRow}
+use Rattle.tagrumzil.specs.Single.{ToldCounts, ToldRow}
 
 module _ (s : List ℕ) (st want : State) (e : st ≡ want) where
   module _ (read : ReadCounts) (g : read ≡ counts_call s st) (row row' : List ℕ) (n : ℕ) where

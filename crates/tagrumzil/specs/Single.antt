@@ -2,7 +2,6 @@
 use Rattle.std.specs.Prelude.{ℕ, ◌≡◌, List}
 use Rattle.input.specs.declared.DoneAnswer.{DoneAnswer}
 use Rattle.input.specs.declared.DoneAnswer.TheVariants as N
-use Rattle.input.specs.declared.ReadDone.{ReadDone}
 use Rattle.rows.specs.Reads.{ToldDone}
 use Rattle.single.specs.declared.Counts.{Counts}
 use Rattle.doubles.specs.declared.CountsAnswer.{CountsAnswer}

@@ -1,13 +1,12 @@
 -- There and back, of every input that is accepted: a message and its struct, read from any bytes by one protocol, is translated to bytes that the other reads as the
 -- same message and the same value, to the bit of each double, empty maps without their types; and translated back it is the same again. Assumes nothing.
-use mathlib.Core.Path.{◌≡◌, refl, sym, ap, subst, ◌∙◌}
-use mathlib.Core.List.{List, ◌++◌}
-use Prim.Native.Nat.{ℕ, ◌+◌, ◌-◌, ◌≤◌}
+use mathlib.Core.Path.{◌≡◌, refl, sym, ap, subst}
+use mathlib.Core.List.{List}
+use Prim.Native.Nat.{ℕ, ◌+◌}
 use native.Mathlib.Omega.{arith}
-use lib.ListN.{length, take, drop}
+use lib.ListN.{take, drop}
 use lib.Seq.{slice}
 use Rattle.types.specs.declared.TType.TheVariants as T
-use Rattle.types.specs.declared.SeqNo.{SeqNo}
 use Rattle.types.specs.declared.TConfiguration.{TConfiguration}
 use Rattle.types.specs.Value as val
 use Rattle.types.specs.Value.{Tree, Fields, type_of, Bytes, Within}
@@ -16,8 +15,8 @@ use Rattle.numbers.specs.Varint.{got, placed}
 use Rattle.numbers.proofs.Found.{zero_one}
 use Rattle.heads.specs.Reader.{and_then, done, read_at}
 use Rattle.heads.specs.Heads.{Message}
-use Rattle.output.proofs.Back.{Reads, then_quiet, done_reads}
-use Rattle.laws.specs.Written.{readable, readable_fields, HeaderWithin}
+use Rattle.output.proofs.Back.{Reads}
+use Rattle.laws.specs.Written.{readable, HeaderWithin}
 use Rattle.protocols.specs.Words.{Words}
 use Rattle.protocols.specs.Value.{value_by}
 use Rattle.protocols.proofs.Owes.{Owes}

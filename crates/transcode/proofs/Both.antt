@@ -28,7 +28,7 @@ use Rattle.numbers.specs.Varint.{got, placed, varint}
 use Rattle.numbers.specs.Fixed.{little}
 use Rattle.numbers.proofs.Found as num
 use Rattle.numbers.proofs.Fixed.{little_below}
-use Rattle.heads.specs.Reader.{done, refuse, and_then, provided, byte, some}
+use Rattle.heads.specs.Reader.{done, refuse, and_then, byte, some}
 use Rattle.heads.specs.Heads.{int8, number32, number64, int16, int32, int64, double, uuid, binary, text, typed, counted, listed, items, mapped, pairs, field_id, of_type, Field, stop, bool, value, field, Message, message_typed, named, versioned, message}
 use Rattle.heads.proofs.Lawful.{not_both, Both}
 use Rattle.heads.proofs.Readers.{was16, was32}

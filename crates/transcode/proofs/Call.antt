@@ -22,7 +22,7 @@ use Rattle.heads.specs.Reader.{Reader, read_at, read_to, missed}
 use Rattle.heads.specs.Heads.{Message}
 use Rattle.laws.specs.Written.{readable}
 use Rattle.transcode.specs.Letter.{letter_by, bytes_of_letter, translated_by}
-use Rattle.transcode.specs.Call.{Outcome, done, not, found_in, ending, leaving, translates, leaves}
+use Rattle.transcode.specs.Call.{done, not, found_in, ending, leaving, translates, leaves}
 use Rattle.transcode.proofs.Ranges.{parts, is_done, first_bytes}
 use Rattle.transcode.proofs.Return.{Protocol}
 use Rattle.transcode.proofs.Accepted.{same_there}

@@ -1,16 +1,16 @@
 -- What is read is within the limits, over any protocol: its lengths and counts, each number in its type's range, each value of the type its header declares, and its
 -- nesting, where its words give numbers in their ranges. (For the compact protocol alone promises/Within has it too.) Assumes nothing.
-use mathlib.Core.Path.{◌≡◌, refl, sym, ap, subst, ◌∙◌}
+use mathlib.Core.Path.{◌≡◌, refl, sym, subst}
 use mathlib.Core.Bool.{Bool, true, false, cond}
-use mathlib.Core.Logic.{◌⊎◌, ⊎_elim}
+use mathlib.Core.Logic.{⊎_elim}
 use mathlib.Core.List.{List, [], ◌∷◌, ◌++◌}
-use Prim.Native.Nat.{ℕ, zero, suc, ◌+◌, ◌-◌, ◌^◌, ◌≤◌, ◌<◌}
+use Prim.Native.Nat.{ℕ, suc, ◌+◌, ◌-◌, ◌^◌, ◌≤◌, ◌<◌}
 use native.Mathlib.Omega.{arith}
 use borrow.Author.Tests.{leb-true}
 use lib.Dec.{leb}
 use lib.IntN.{ℤ, pos}
 use lib.ListN.{length, take, drop, take-append-drop}
-use lib.Seq.{slice, length-take-le}
+use lib.Seq.{length-take-le}
 use mir.Syntax.{w8, w16, w32, w64}
 use mir.Val.{SFits}
 use Rattle.types.specs.Refusals.{END, NEGATIVE_SIZE, SIZE_LIMIT}
@@ -19,7 +19,7 @@ use Rattle.types.specs.declared.TConfiguration.{TConfiguration}
 use Rattle.types.specs.Value as val
 use Rattle.types.specs.Value.{Tree, Trees, no_trees, tree, Pairs, no_pairs, pair, Fields, no_fields, type_of, size, size_p, nesting, nesting_all, nesting_pairs, nesting_fields, Sized, SizedAll, SizedPairs, SizedFields, Bytes, Typed, TypedAll, TypedPairs, TypedFields, Within}
 use Rattle.utf8.specs.Utf8.{utf8}
-use Rattle.numbers.specs.Varint.{Found, got, refused}
+use Rattle.numbers.specs.Varint.{got, refused}
 use Rattle.numbers.proofs.Found as num
 use Rattle.heads.specs.Reader.{Reader, done, refuse, and_then, provided, some}
 use Rattle.heads.specs.Heads.{counted, listed, Field, stop, bool, value, Message}

@@ -1,6 +1,6 @@
 -- A value as it can be read back is one that is read back as itself, and is within the limits where the value is. Assumes nothing.
-use mathlib.Core.Path.{◌≡◌, refl, sym, ap, ap₂, subst, ◌∙◌}
-use Prim.Native.Nat.{ℕ, suc, ◌+◌, ◌≤◌, max}
+use mathlib.Core.Path.{◌≡◌, refl, ap, ap₂, ◌∙◌}
+use Prim.Native.Nat.{ℕ, suc, ◌≤◌, max}
 use native.Mathlib.Omega.{arith}
 use Rattle.types.specs.declared.TType.{TType}
 use Rattle.types.specs.declared.TType.TheVariants as T

@@ -1,17 +1,15 @@
 -- There and back is the same value, between any two protocols: what a message within the limits is translated to is read as it, to the bit of each double, the
 -- types of empty maps apart; translated back it is read as the very same. Assumes nothing.
-use mathlib.Core.Path.{◌≡◌, ap, subst, ◌∙◌}
-use mathlib.Core.List.{List, ◌++◌}
+use mathlib.Core.Path.{◌≡◌, subst}
+use mathlib.Core.List.{List}
 use Prim.Native.Nat.{ℕ}
-use lib.ListN.{length}
 use Rattle.types.specs.declared.TMessageType.{TMessageType}
 use Rattle.types.specs.declared.SeqNo.{SeqNo}
 use Rattle.types.specs.declared.TConfiguration.{TConfiguration}
 use Rattle.types.specs.Value as val
 use Rattle.types.specs.Value.{Tree, Fields, Within}
 use Rattle.types.proofs.Limits.{Ranged}
-use Rattle.numbers.specs.Varint.{got}
-use Rattle.heads.specs.Reader.{and_then, done}
+use Rattle.heads.specs.Reader.{done}
 use Rattle.heads.specs.Heads.{Message}
 use Rattle.output.proofs.Back.{Reads, then_quiet, done_reads}
 use Rattle.laws.specs.Written.{readable, readable_fields, HeaderWithin}

@@ -4,7 +4,7 @@ use mathlib.Core.List.{List, [], ◌∷◌}
 use Prim.Native.Nat.{ℕ}
 use Rattle.types.specs.Codes.{type_code, truth_code, message_code, type_by_number, element_type, field_type, message_by_number}
 use Rattle.types.specs.Limits.{defaults}
-use Rattle.types.specs.Value.{type_of, size, size_p}
+use Rattle.types.specs.Value.{type_of}
 use Rattle.numbers.specs.Varint.{got, fewest}
 use Rattle.utf8.specs.Utf8.{utf8, past, decode}
 use Rattle.heads.specs.Reader.{done, refuse, and_then, provided, byte, some}

@@ -1,7 +1,6 @@
 -- One message with its struct, as a protocol's words read it and its pens write it, and a translation of it. Assumes nothing: these are definitions.
-use Rattle.std.specs.Prelude.{ℕ, List, ◌++◌, ℤ}
+use Rattle.std.specs.Prelude.{ℕ, List, ◌++◌}
 use Rattle.types.specs.declared.TType.TheVariants as T
-use Rattle.types.specs.declared.TMessageType.{TMessageType}
 use Rattle.types.specs.declared.TConfiguration.{TConfiguration}
 use Rattle.types.specs.Value.{Tree}
 use Rattle.heads.specs.Reader.{Reader, done, and_then}
