@@ -2,7 +2,7 @@
 use Rattle.std.specs.Prelude.{ℕ, ◌-◌, Bool, false, cond, List, [], ◌∷◌, ◌++◌, ltb, length, take, drop, get_or}
 use Rattle.types.specs.Refusals.{NO_ROOM}
 use Rattle.types.specs.declared.TConfiguration.{TConfiguration}
-use Rattle.input.specs.State.{State, fresh}
+use Rattle.input.specs.State.{fresh}
 use Rattle.input.specs.Calls.{read_message}
 use Rattle.faults.specs.Tracked as way
 use Rattle.faults.specs.Tracked.{Step}

@@ -1,6 +1,5 @@
 use borrow.Author.Rules.{rules}
 use Rattle.fault_lines.proofs.Rows.{steps_cases}
-use Prim.Native.Nat.{◌-◌}
 use Rattle.fault_lines.proofs.put_steps.Goals as goal
 
 pub loop-k-init : goal.loop-k-init

@@ -13,3 +13,6 @@ returns-in-Accepted c = search struct_cases
 
 pub returns-else-more : goal.returns-else-more
 returns-else-more c = search struct_cases
+
+pub put_steps-b-requires : goal.put_steps-b-requires
+put_steps-b-requires c = search (rules, struct_cases)
