@@ -1,27 +1,25 @@
 -- Demands 2 and 3 for a reader at any place of any input that holds the bytes there. Assumes nothing.
 use mathlib.Core.Path.{◌≡◌, refl, sym, ap, subst, ◌∙◌}
-use mathlib.Core.Bool.{true, false}
+use mathlib.Core.Bool.{true}
 use mathlib.Core.Logic.{◌↔◌}
-use mathlib.Core.List.{List, [], ◌∷◌, ◌++◌}
+use mathlib.Core.List.{List, ◌++◌}
 use Prim.Native.Nat.{ℕ, ◌+◌, ◌*◌, ◌-◌, ◌≤◌}
 use native.Mathlib.Omega.{arith}
 use lib.IntN.{ℤ, pos}
 use lib.ListN.{length, get_or, take, drop, length-drop, length-append, take-append-drop}
 use lib.Seq.{take_at, take-take}
 use Rattle.types.specs.declared.TType.{TType}
-use Rattle.types.specs.declared.TType.TheVariants as T
 use Rattle.types.specs.declared.TMessageType.{TMessageType}
 use Rattle.types.specs.declared.FieldId.{FieldId}
 use Rattle.types.specs.declared.SeqNo.{SeqNo}
 use Rattle.types.specs.declared.TConfiguration.{TConfiguration}
-use Rattle.types.specs.Limits.{in_range}
 use Rattle.types.specs.Value as val
 use Rattle.types.specs.Value.{Tree, Fields, type_of, nesting, Within}
 use Rattle.types.proofs.Limits.{Ranged, ranged, in_range_lem}
 use Rattle.numbers.proofs.Found.{same_part}
 use Rattle.heads.specs.Heads.{message}
 use Rattle.heads.specs.Answers.{id_of}
-use Rattle.heads.specs.Spells.{Spells, Formed}
+use Rattle.heads.specs.Spells.{Formed}
 use Rattle.input.specs.State as I
 use Rattle.input.specs.Outcome.{cut_here}
 use Rattle.input.specs.declared.Awaited.TheVariants as W
@@ -31,7 +29,7 @@ use Rattle.output.proofs.Checks.{sound}
 use Rattle.output.proofs.Back.{whole, message_reads}
 use Rattle.puts.specs.Bytes.{message_bytes}
 use Rattle.skip.specs.Skip.{room_of}
-use Rattle.wanted.specs.Wanted.{among, listed}
+use Rattle.wanted.specs.Wanted.{listed}
 use Rattle.laws.specs.Written.{bytes_of, bytes_of_whole, HeaderWithin, readable, readable_fields}
 use Rattle.laws.specs.Text.{Plan, Texts}
 use Rattle.laws.specs.Writing.{ran, write_of, write_whole}

@@ -2,14 +2,12 @@
 use mathlib.Core.Path.{◌≡◌, refl}
 use mathlib.Core.Bool.{Bool, true, false, cond}
 use mathlib.Core.List.{List, [], ◌∷◌, ◌++◌}
-use Prim.Native.Nat.{ℕ, zero, suc, ◌+◌, ◌*◌, ◌-◌, ◌<◌, ◌≤◌}
+use Prim.Native.Nat.{ℕ, ◌+◌, ◌*◌, ◌<◌}
 use native.Mathlib.Omega.{arith}
 use borrow.Author.Tests.{ltb-true}
 use lib.Dec.{eqb, ltb}
 use lib.IntN.{ℤ, pos, ◌-ℤ◌}
 use lib.ListN.{length}
-use mir.Syntax.{w8}
-use mir.Val.{SFits, of_z}
 use mir.Facts.{Fits-of_z}
 use Rattle.types.specs.Codes.{type_code, truth_code}
 use Rattle.types.specs.declared.TType.{TType}

@@ -2,7 +2,7 @@
 use mathlib.Core.Path.{◌≡◌, refl, sym, ap, ap₂, subst, ◌∙◌}
 use mathlib.Core.Bool.{Bool, true, false, cond}
 use mathlib.Core.List.{List, [], ◌∷◌}
-use Prim.Native.Nat.{ℕ, zero, suc, ◌+◌, ◌-◌, ◌≤◌, ◌<◌}
+use Prim.Native.Nat.{ℕ, zero, suc, ◌+◌, ◌≤◌, ◌<◌}
 use native.Mathlib.Omega.{arith}
 use lib.Dec.{ltb}
 use lib.IntN.{ℤ, pos}
@@ -20,17 +20,13 @@ use Rattle.heads.specs.Answers.{place, id_of}
 use Rattle.heads.proofs.Lawful.{Takes, not_both}
 use Rattle.heads.proofs.Readers.{field_takes, message_takes}
 use Rattle.heads.proofs.Steps.{found_at, step, stop_at, done_at}
-use Rattle.input.specs.State.{State, sound, cut_of, waits, moved_to, begun_here, with_last, with_pending}
-use Rattle.input.specs.Outcome.{Outcome, Said, answers, declines, calls_to, calls, cut_here, anew, on_field}
+use Rattle.input.specs.State.{State, sound, cut_of, waits, moved_to, with_last, with_pending}
+use Rattle.input.specs.Outcome.{Outcome, answers, declines, calls_to, cut_here, anew, on_field}
 use Rattle.input.specs.Answers.{as_field, as_message, as_done, number_message}
 use Rattle.input.specs.Calls.{read_field, read_message}
 use Rattle.input.specs.declared.Awaited.{Awaited}
 use Rattle.input.specs.declared.Awaited.TheVariants as W
-use Rattle.input.specs.declared.FieldAnswer.{FieldAnswer}
 use Rattle.input.specs.declared.FieldAnswer.TheVariants as F
-use Rattle.input.specs.declared.MessageAnswer.TheVariants as M
-use Rattle.input.specs.declared.DoneAnswer.{DoneAnswer}
-use Rattle.input.specs.declared.DoneAnswer.TheVariants as D
 use Rattle.input.specs.declared.ReadField.{ReadField}
 use Rattle.input.specs.declared.ReadDone.{ReadDone}
 use Rattle.input.proofs.Gate.{is_sound}
@@ -40,8 +36,6 @@ use Rattle.input.proofs.Refusals.{message_told_lem}
 use Rattle.skip.specs.Walk.{Entry, with_size, sizing, behind, fields}
 use Rattle.skip.specs.Value.{value_of}
 use Rattle.skip.specs.Skip.{passed, skip_to, over, room_of, awaited, skips, skip_call}
-use Rattle.skip.specs.declared.Skipped.{Skipped}
-use Rattle.skip.specs.declared.Skipped.TheVariants as S
 use Rattle.skip.proofs.Walks.{fields_step}
 use Rattle.skip.proofs.Laws.{skip_laws}
 use Rattle.skip.proofs.Call.{nothing_waits}

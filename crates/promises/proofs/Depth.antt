@@ -1,10 +1,10 @@
 -- Where skip gives DEPTH: exactly where more room would change the answer. An answer that is not DEPTH is the one with any room more, and with more levels than
 -- there are bytes DEPTH is never given, since every level has a byte of its own. Assumes nothing.
-use mathlib.Core.Path.{◌≡◌, refl, sym, ap, subst, ◌∙◌}
+use mathlib.Core.Path.{◌≡◌, refl, sym, ap, ◌∙◌}
 use mathlib.Core.Bool.{Bool, true, false, cond}
 use mathlib.Core.Logic.{◌⊎◌, ◌↔◌, inl, inr, ⊎_elim}
 use mathlib.Core.List.{List, [], ◌∷◌}
-use Prim.Native.Nat.{ℕ, zero, suc, ◌+◌, ◌-◌, ◌/◌, ◌%◌, ◌≤◌, ◌<◌}
+use Prim.Native.Nat.{ℕ, zero, suc, ◌+◌, ◌/◌, ◌%◌, ◌≤◌, ◌<◌}
 use native.Mathlib.Omega.{arith}
 use lib.Dec.{eqb, leb, ltb}
 use lib.IntN.{ℤ, pos, ◌+ℤ◌}
@@ -32,7 +32,7 @@ use Rattle.skip.specs.Walk.{Entry, with_size, sizing, behind, walk, fields}
 use Rattle.skip.specs.Skip.{passed, past, skip_of}
 use Rattle.skip.specs.declared.Skipped.TheVariants as S
 use Rattle.skip.proofs.Lawfuls.{sizing_lawful, sizing_takes}
-use Rattle.skip.specs.Value.{many, many_pairs, fields_of, startable, Boxes, shut, boxed, roomy, shaped, value_of}
+use Rattle.skip.specs.Value.{many, many_pairs, Boxes, shut, roomy, shaped, value_of}
 
 -- q answers as p does, unless p says DEPTH
 abbrev pub Under : {A : Type 0} → Reader A → Reader A → Type 0

@@ -1,7 +1,7 @@
 -- Which numbers the functions behind the calls give, by the number of each answer. Assumes nothing.
 use mathlib.Core.Path.{◌≡◌, refl, ap, ◌∙◌}
 use mathlib.Core.Bool.{Bool, true, false, cond}
-use mathlib.Core.List.{List, [], ◌∷◌}
+use mathlib.Core.List.{List}
 use Prim.Native.Nat.{ℕ, ◌+◌}
 use lib.IntN.{ℤ}
 use lib.ListN.{drop}

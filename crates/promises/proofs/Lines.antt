@@ -1,9 +1,9 @@
 -- The printing program's lines on an input that is cut short: all but the last are the first lines of the whole. So the lines before a refusal are those of the items
 -- that were whole before the break. Assumes nothing.
 use mathlib.Core.Path.{◌≡◌, refl, sym, ap, ap₂, subst, ◌∙◌}
-use mathlib.Core.Bool.{Bool, true, false, cond}
-use mathlib.Core.List.{List, [], ◌∷◌, ◌++◌, append_assoc, append-nil}
-use Prim.Native.Nat.{ℕ, zero, suc, ◌+◌, ◌≤◌}
+use mathlib.Core.Bool.{Bool, true, false}
+use mathlib.Core.List.{List, [], ◌∷◌, ◌++◌, append_assoc}
+use Prim.Native.Nat.{ℕ, zero, suc, ◌≤◌}
 use native.Mathlib.Omega.{arith}
 use borrow.Author.Tests.{le-ltb}
 use lib.IntN.{ℤ, pos}
@@ -24,7 +24,6 @@ use Rattle.heads.proofs.Readers.{int8_lawful, int16_lawful, int32_lawful, int64_
 use Rattle.heads.proofs.Ahead.{Fair, lawful_fair, items_head_fair, pairs_head_fair}
 use Rattle.heads.proofs.Steps.{found_at}
 use Rattle.skip.specs.Value.{startable}
-use Rattle.scalars.specs.Scalars.{scalar_of}
 use Rattle.scalars.specs.declared.Scalar.TheVariants as S
 use Rattle.lines.specs.Lines as row
 use Rattle.lines.specs.Lines.{Item}

@@ -1,18 +1,14 @@
 -- What the reader's calls owe, of all of them at once. Assumes nothing.
-use mathlib.Core.Path.{◌≡◌, refl, sym, ap, subst, ◌∙◌}
-use mathlib.Core.Bool.{Bool, true, false, cond, not, ◌&&◌, ◌||◌}
+use mathlib.Core.Path.{◌≡◌, refl, ap}
+use mathlib.Core.Bool.{Bool, true, false, cond, ◌||◌}
 use mathlib.Core.List.{List, [], ◌∷◌}
-use Prim.Native.Nat.{ℕ, suc, ◌≤◌, ◌<◌}
+use Prim.Native.Nat.{ℕ}
 use native.Mathlib.Omega.{arith}
 use borrow.Author.Tests.{ltb-true, ltb-false, le-leb, le-ltb}
 use lib.Dec.{eqb, leb, ltb}
-use lib.IntN.{ℤ}
 use lib.ListN.{length}
 use Rattle.types.specs.Refusals.{OUT_OF_TURN, NO_ROOM, BAD_STATE, BAD_LIST, RANGE, MESSAGE_SIZE}
-use Rattle.types.specs.Codes.{type_code}
-use Rattle.types.specs.declared.TType.{TType}
-use Rattle.types.specs.declared.TType.TheVariants as T
-use Rattle.input.specs.State.{State, sound, waits}
+use Rattle.input.specs.State.{State, sound}
 use Rattle.input.specs.Answers.{number_bool, number_i8, number_i16, number_i32, number_i64, number_double, number_part, number_list, number_map, number_field, number_message, number_done}
 use Rattle.input.specs.Calls.{read_bool, read_i8, read_i16, read_i32, read_i64, read_double, read_uuid, read_bytes, read_string, read_list, read_set, read_map, read_field, read_message, struct_begin, struct_end}
 use Rattle.input.proofs.Refusals.{can_give}
@@ -22,7 +18,7 @@ use Rattle.skip.specs.Skip.{skip_call}
 use Rattle.skip.proofs.Laws.{skip_laws}
 use Rattle.picker.specs.Pick.{pick_call}
 use Rattle.picker.proofs.Laws.{pick_laws}
-use Rattle.promises.specs.Reads.{Plain, Header, Read, Ended, ended, plainly, headed, reads, late, far, reads_all, i8, i16, i32, i64, double, uuid, bytes, string, field, message, begin, list, set, map, plain, header, bool, end, skip, pick}
+use Rattle.promises.specs.Reads.{Plain, Header, Read, ended, plainly, headed, reads, late, far, reads_all, i8, i16, i32, i64, double, uuid, bytes, string, field, message, begin, list, set, map, plain, header, bool, end, skip, pick}
 use Rattle.promises.specs.Promises.{reader_gives}
 
 abbrev Laws : Read → Type 0

@@ -2,20 +2,18 @@
 use mathlib.Core.Path.{◌≡◌, refl, sym, ap, ap₂, subst, ◌∙◌}
 use mathlib.Core.Bool.{Bool, true, false, cond}
 use mathlib.Core.List.{List, [], ◌∷◌}
-use Prim.Native.Nat.{ℕ, zero, suc, ◌+◌, ◌-◌, ◌*◌, ◌≤◌, ◌<◌}
+use Prim.Native.Nat.{ℕ, zero, suc, ◌-◌, ◌*◌}
 use native.Mathlib.Omega.{arith}
 use native.Mathlib.Decide.{ℕ_discrete}
-use borrow.Author.Tests.{eq-eqb, ne_eqb, eqb-true}
+use borrow.Author.Tests.{eq-eqb, ne_eqb}
 use lib.Dec.{eqb, leb, ltb}
 use lib.IntN.{ℤ, pos}
 use lib.ListN.{length, get_or, set, drop, take, replicate, length-set}
-use lib.Seq.{get_or-set_same, get_or-set_other}
 use mir.Syntax.{w16}
 use mir.Val.{SFits}
 use Rattle.types.specs.Codes.{type_code}
 use Rattle.types.specs.Refusals.{BAD_STATE, OUT_OF_TURN, DEPTH, NO_ROOM, BAD_LIST}
 use Rattle.types.specs.declared.TType.{TType}
-use Rattle.types.specs.declared.TConfiguration.{TConfiguration}
 use Rattle.types.specs.Value as val
 use Rattle.types.specs.Value.{Tree}
 use Rattle.numbers.specs.Varint.{Found, got, refused, placed}
@@ -23,10 +21,8 @@ use Rattle.heads.specs.Reader.{Reader, read_at, read_to, missed}
 use Rattle.heads.specs.Heads.{int8, int16, int32, int64, double, uuid, truth, binary, text, items_head, pairs_head, Field, stop, bool, value, field, Message, message}
 use Rattle.heads.specs.Answers.{place, id_of}
 use Rattle.heads.proofs.Lawful.{not_both}
-use Rattle.heads.proofs.Steps.{found_at}
-use Rattle.input.specs.State as I
-use Rattle.input.specs.State.{State, sound, gate, cut_of, moved_to, begun_here, with_last, with_pending, entered, left, waits}
-use Rattle.input.specs.Outcome.{Said, says, refuses, Outcome, answers, declines, guarded, from, calls_to, calls, stays, element, taken, bools, begins, ends, cut_here, anew, on_field}
+use Rattle.input.specs.State.{State, sound, gate, cut_of, moved_to, with_last, with_pending, entered, left}
+use Rattle.input.specs.Outcome.{Outcome, answers, declines, from, calls_to, calls, stays, element, taken, bools, begins, ends, cut_here, anew, on_field}
 use Rattle.input.specs.Answers.{as_bool, as_i8, as_i16, as_i32, as_i64, as_double, as_part, as_list, as_map, as_field, as_message, as_done, number_bool, number_i8, number_i16, number_i32, number_i64, number_double, number_part, number_list, number_map, number_field, number_message, number_done}
 use Rattle.input.specs.Calls.{read_bool, read_i8, read_i16, read_i32, read_i64, read_double, read_uuid, read_bytes, read_string, read_list, read_set, read_map, read_field, read_message, struct_begin, struct_end}
 use Rattle.input.specs.declared.Awaited.{Awaited}

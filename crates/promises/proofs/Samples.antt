@@ -2,9 +2,9 @@
 -- and read from place 1 of another input, under a ceiling that leaves the longer no byte more. So none of these promises is empty. Assumes nothing.
 use mathlib.Core.Path.{◌≡◌, refl}
 use mathlib.Core.Logic.{inl, inr}
-use mathlib.Core.Bool.{true, false}
+use mathlib.Core.Bool.{true}
 use mathlib.Core.List.{List, [], ◌∷◌, ◌++◌}
-use Prim.Native.Nat.{ℕ, zero, suc, ◌+◌, ◌≤◌}
+use Prim.Native.Nat.{ℕ, zero, suc, ◌≤◌}
 use native.Mathlib.Omega.{arith}
 use lib.IntN.{pos}
 use lib.ListN.{length, get_or, replicate}
@@ -17,7 +17,6 @@ use Rattle.types.specs.declared.SeqNo.{SeqNo}
 use Rattle.types.specs.Value as val
 use Rattle.types.specs.Value.{Fields, no_fields, type_of}
 use Rattle.numbers.specs.Varint.{fewest}
-use Rattle.numbers.specs.Fixed.{eight}
 use Rattle.utf8.specs.Utf8.{utf8, past, decode}
 use Rattle.puts.specs.Bytes.{short_delta, field_bytes, string_bytes, message_bytes}
 use Rattle.heads.specs.Answers.{place, id_of}

@@ -2,38 +2,36 @@
 -- nesting. With `spelt` (laws), which goes the other way, "within the limits" is exact. Assumes nothing.
 use mathlib.Core.Path.{◌≡◌, refl, sym, ap, subst, ◌∙◌}
 use mathlib.Core.Bool.{Bool, true, false, cond}
-use mathlib.Core.Logic.{◌⊎◌, ⊎_elim}
+use mathlib.Core.Logic.{⊎_elim}
 use mathlib.Core.List.{List, [], ◌∷◌, ◌++◌}
-use Prim.Native.Nat.{ℕ, zero, suc, ◌+◌, ◌-◌, ◌/◌, ◌%◌, ◌^◌, ◌≤◌, ◌<◌}
+use Prim.Native.Nat.{ℕ, suc, ◌+◌, ◌-◌, ◌/◌, ◌%◌, ◌^◌, ◌≤◌, ◌<◌}
 use native.Mathlib.Omega.{arith}
 use borrow.Author.Tests.{leb-true, ltb-false}
 use lib.Dec.{eqb, leb, ltb}
 use lib.IntN.{ℤ, pos, negsuc, ◌+ℤ◌}
 use lib.Signed.{lt_z}
-use lib.ListN.{length, get_or, take, drop, take-append-drop}
+use lib.ListN.{length, take, drop, take-append-drop}
 use lib.Seq.{slice, length-take-le}
 use mir.Syntax.{Width, w8, w16, w32, w64}
-use mir.Val.{SFits, to_z, bits, hbits}
+use mir.Val.{SFits, to_z, bits}
 use mir.Facts.{sfits_to_z}
 use Rattle.types.specs.Refusals.{END, FIELD_ID, NEGATIVE_SIZE, SIZE_LIMIT}
 use Rattle.types.specs.Codes.{element_type, field_type}
 use Rattle.types.specs.declared.TType.{TType}
 use Rattle.types.specs.declared.TType.TheVariants as T
-use Rattle.types.specs.declared.TypeRead.{TypeRead}
-use Rattle.types.specs.declared.TypeRead.TheVariants as R
 use Rattle.types.specs.declared.FieldType.{FieldType}
 use Rattle.types.specs.declared.FieldType.TheVariants as F
 use Rattle.types.specs.declared.TConfiguration.{TConfiguration}
 use Rattle.types.specs.Value as val
 use Rattle.types.specs.Value.{Tree, Trees, no_trees, tree, Pairs, no_pairs, pair, Fields, no_fields, type_of, size, size_p, Sized, SizedAll, SizedPairs, SizedFields, Bytes, Typed, TypedAll, TypedPairs, TypedFields, Within}
-use Rattle.zigzag.specs.Zigzag.{unzigzag, zigzag}
+use Rattle.zigzag.specs.Zigzag.{unzigzag}
 use Rattle.zigzag.proofs.Zig.{half_lt, fits_range}
-use Rattle.numbers.specs.Varint.{Found, got, refused, placed, varint}
+use Rattle.numbers.specs.Varint.{got, refused, placed, varint}
 use Rattle.numbers.specs.Fixed.{little}
 use Rattle.numbers.proofs.Found as num
 use Rattle.numbers.proofs.Fixed.{little_below}
-use Rattle.heads.specs.Reader.{Reader, Whole, done, refuse, and_then, provided, byte, some, onward}
-use Rattle.heads.specs.Heads.{int8, number32, number64, int16, int32, int64, double, uuid, truth, binary, typed, counted, listed, items, mapped, pairs, field_id, of_type, Field, stop, bool, value, field}
+use Rattle.heads.specs.Reader.{Reader, done, refuse, and_then, provided, byte, some}
+use Rattle.heads.specs.Heads.{int8, number32, number64, int16, int32, int64, double, uuid, binary, typed, counted, listed, items, mapped, pairs, field_id, of_type, Field, stop, bool, value, field}
 use Rattle.heads.specs.Spells.{Spells, SpellsAll, SpellsPairs, SpellsFields, Formed}
 use Rattle.heads.proofs.Lawful.{not_both, Both, both}
 use Rattle.heads.proofs.Readers.{was16, was32}

@@ -2,12 +2,12 @@
 -- scope paper says, and which numbers each call can give. Assumes nothing.
 use mathlib.Core.Path.{◌≡◌, refl, sym, ap, subst, ◌∙◌}
 use mathlib.Core.Bool.{Bool, true, false, cond, ◌&&◌, ◌||◌}
-use mathlib.Core.Logic.{◌⊎◌, ◌↔◌, inl, inr, ⊎_elim}
+use mathlib.Core.Logic.{◌↔◌, ⊎_elim}
 use mathlib.Core.List.{List, [], ◌∷◌}
-use Prim.Native.Nat.{ℕ, zero, suc, ◌+◌, ◌≤◌}
+use Prim.Native.Nat.{ℕ}
 use native.Mathlib.Omega.{arith}
 use native.Mathlib.Decide.{ℕ_discrete}
-use borrow.Author.Tests.{eq-eqb, ne_eqb}
+use borrow.Author.Tests.{ne_eqb}
 use lib.Dec.{eqb, leb}
 use lib.IntN.{ℤ, pos}
 use lib.Signed.{lt_z}
@@ -28,7 +28,7 @@ use Rattle.output.proofs.Checks.{Sound, sound, sound_is, size_none}
 use Rattle.output.proofs.Laws.{Went, Stopped, either, goes}
 use Rattle.output.proofs.Stays as stays
 use Rattle.rows.specs.Writes.{number_written}
-use Rattle.promises.specs.Writes.{Write, call_of, number, next, left, can_give, one_of, waits, late, Kept, writes_all, message, begin, end, field, stop, bool, i8, int, double, uuid, bytes, string, items, pairs}
+use Rattle.promises.specs.Writes.{Write, call_of, number, next, left, can_give, one_of, waits, late, writes_all, message, begin, end, field, stop, bool, i8, int, double, uuid, bytes, string, items, pairs}
 
 no_way : {X : Type 0} → ◌≡◌ {A = Bool} false true → X
 no_way e = let z : ◌≡◌ {A = ℕ} 0 1 = cc in absurd (omega arith)

@@ -1,9 +1,9 @@
 -- A row of exported writer calls does what the row of state calls does, from any rows that hold a state, ids and buffer included. Assumes nothing.
 use mathlib.Core.Path.{◌≡◌, refl, sym, ap, ap₂, subst, ◌∙◌}
 use mathlib.Core.Bool.{Bool, true, false, cond}
-use mathlib.Core.Logic.{◌⊎◌, ⊎_elim}
+use mathlib.Core.Logic.{⊎_elim}
 use mathlib.Core.List.{List, [], ◌∷◌}
-use Prim.Native.Nat.{ℕ, zero, suc, ◌+◌, ◌-◌, ◌≤◌, ◌<◌}
+use Prim.Native.Nat.{ℕ, zero, suc, ◌+◌, ◌-◌}
 use native.Mathlib.Omega.{arith}
 use native.Mathlib.Decide.{ℕ_discrete}
 use borrow.Author.Tests.{eq-eqb, ne_eqb}
@@ -12,20 +12,20 @@ use lib.IntN.{ℤ, pos}
 use lib.ListN.{length, get_or, set, replicate, length-set}
 use mir.Syntax.{w16}
 use mir.Val.{SFits}
-use Rattle.types.specs.Codes.{type_code, truth_code}
+use Rattle.types.specs.Codes.{type_code}
 use Rattle.types.specs.declared.TType.{TType}
 use Rattle.types.specs.declared.FieldId.{FieldId}
 use Rattle.puts.specs.Bytes.{field_bytes}
 use Rattle.types.specs.Refusals.{NO_ROOM}
 use Rattle.puts.specs.Wrong.{or_else, field_wrong}
-use Rattle.output.specs.State.{State, unsound, in_turn, moved_to, begun_here, headed, awaiting, entered, ended}
+use Rattle.output.specs.State.{State, unsound, in_turn, moved_to, headed, awaiting, entered, ended}
 use Rattle.output.specs.Calls.{Call, call, size_wrong, why_not, writes, leaves, begin_wrong, end_wrong, field_call, truth_call, bool_call, struct_begin_call, struct_end_call}
 use Rattle.output.specs.declared.AwaitedField.{AwaitedField}
 use Rattle.output.specs.declared.AwaitedField.TheVariants as A
 use Rattle.output.specs.declared.WriteAnswer.{WriteAnswer}
 use Rattle.output.specs.declared.WriteAnswer.TheVariants as WA
 use Rattle.output.specs.declared.Written.{Written}
-use Rattle.output.proofs.Laws.{Went, Stopped, either}
+use Rattle.output.proofs.Laws.{either}
 use Rattle.rows.specs.Row.{limits_of, writer_of, writer_after, refilled}
 use Rattle.rows.specs.Writes.{number_written}
 use Rattle.rows.specs.Structs.{struct_writer, saved_write, restored_write, begin_writes, begin_leaves, end_writes, end_leaves, last_write}

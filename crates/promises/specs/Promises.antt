@@ -2,7 +2,7 @@
 -- its own, Requests.antt. proofs/Kept.antt proves every one of
 -- them. That each call ends, and answers as its definition says for every input, is its contract, in src/ of its crate. Assumes nothing:
 -- these are definitions.
-use Rattle.std.specs.Prelude.{ℕ, suc, ◌+◌, ◌*◌, ◌-◌, ◌≤◌, ◌<◌, ◌≡◌, Bool, true, false, ◌||◌, ◌↔◌, List, [], ◌∷◌, ◌++◌, eqb, leb, ℤ, pos, length, take}
+use Rattle.std.specs.Prelude.{ℕ, suc, ◌+◌, ◌*◌, ◌-◌, ◌≤◌, ◌≡◌, Bool, true, false, ◌||◌, ◌↔◌, List, [], ◌∷◌, ◌++◌, eqb, leb, ℤ, pos, length, take}
 use Rattle.std.specs.Int.{w16, w32, w64}
 use Rattle.std.proofs.Common.{SFits}
 use Rattle.types.specs.Refusals.{DEPTH, OUT_OF_TURN, NO_ROOM, BAD_STATE, BAD_LIST, RANGE, MESSAGE_SIZE}

@@ -2,24 +2,20 @@
 use Rattle.std.specs.Prelude.{ℕ, ◌+◌, ◌*◌, ◌≤◌, ◌<◌, ◌≡◌, true, List, [], ◌++◌, ℤ, pos, length, get_or, drop}
 use Rattle.std.proofs.Math.Seq.{slice}
 use Rattle.types.specs.declared.FieldId.{FieldId}
-use Rattle.types.specs.declared.TMessageType.{TMessageType}
-use Rattle.types.specs.declared.SeqNo.{SeqNo}
 use Rattle.types.specs.declared.TConfiguration.{TConfiguration}
 use Rattle.types.specs.Value as val
 use Rattle.types.specs.Value.{Tree, Fields, type_of}
 use Rattle.numbers.specs.Answers.{put_at}
-use Rattle.heads.specs.Answers.{id_of}
 use Rattle.input.specs.State as I
 use Rattle.input.specs.declared.Awaited.TheVariants as W
 use Rattle.output.specs.State as O
 use Rattle.output.specs.declared.AwaitedField.TheVariants as A
-use Rattle.skip.specs.Skip.{skip_call, skipped_to}
+use Rattle.skip.specs.Skip.{skipped_to}
 use Rattle.wanted.specs.Wanted.{among}
-use Rattle.picker.specs.Pick.{Row, Own, answer, rows_of, pick_call, picked_rows}
-use Rattle.laws.specs.Written.{bytes_of, bytes_of_whole, readable}
-use Rattle.laws.specs.Text.{Plan}
+use Rattle.picker.specs.Pick.{Own, answer, rows_of, pick_call, picked_rows}
+use Rattle.laws.specs.Written.{bytes_of}
 use Rattle.laws.specs.Writing.{Step, ran, run}
-use Rattle.laws.specs.Reading.{Took, took, read_of}
+use Rattle.laws.specs.Reading.{Took, took}
 use Rattle.unknown.specs.Inserted.{last_in, kind_of, bytes_in}
 
 -- "output .. have room, .. reader and writer stand at one struct depth under the same limits, no bool is pending, and in each state that
