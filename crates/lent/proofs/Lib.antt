@@ -1,3 +1,10 @@
+pub mod Thin
+pub mod Kept
+pub mod Answers
+pub mod Meets
+pub mod Three
+pub mod Use
+pub mod Locals
 pub mod Counting
 pub mod Enough
 pub mod Turns
