@@ -32,7 +32,7 @@ abbrev pub decreases-skip_list-loop-left : goal.decreases-skip_list-loop-left
 decreases-skip_list-loop-left l = l.left
 
 abbrev pub invariant-skip_pairs-loop-left : goal.invariant-skip_pairs-loop-left
-invariant-skip_pairs-loop-left l = past (many_pairs (value_by binary l.limits l.room l.key) (value_by binary l.limits l.room l.value) l.left) l.s l.p.0 ≡ past (many_pairs (value_by binary l.limits l.room l.key) (value_by binary l.limits l.room l.value) l.initial.left) l.s l.initial.p.0
+invariant-skip_pairs-loop-left l = past (many_pairs (value_by binary l.limits l.room l.fn.key) (value_by binary l.limits l.room l.fn.value) l.left) l.s l.p.0 ≡ past (many_pairs (value_by binary l.limits l.room l.fn.key) (value_by binary l.limits l.room l.fn.value) l.initial.left) l.s l.initial.p.0
 
 abbrev pub decreases-skip_pairs-loop-left : goal.decreases-skip_pairs-loop-left
 decreases-skip_pairs-loop-left l = l.left
