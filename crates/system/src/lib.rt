@@ -3,6 +3,7 @@
 #![tactic(auto)]
 
 ghost use Rattle.std.specs.Prelude.{◌≡◌, ◌≤◌, length, IfOk};
+ghost use Rattle.std.specs.Str.{IsUtf8};
 ghost use Rattle.system.specs.Counts.{IsPrefixLen};
 
 use std::env::{Env, FillError};
@@ -69,7 +70,9 @@ pub fn argument(env: &impl Env, i: usize, buf: &mut [u8]) -> io::Result<usize>
 }
 
 // Opens a file for reading. A name has to be UTF-8.
-pub fn open<R: Files>(files: &R, path: &[u8]) -> io::Result<R::File> {
+pub fn open<R: Files>(files: &R, path: &[u8]) -> io::Result<R::File>
+    ensures { IfOk result (λ _. IsUtf8 path.now) }
+{
     match str::from_utf8(path) {
         Ok(name) => File::open(files, name),
         Err(_) => Err(io::Error::from(io::ErrorKind::InvalidFilename)),
