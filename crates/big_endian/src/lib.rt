@@ -1,12 +1,9 @@
-// Numbers of 16, 32 and 64 bits with the highest byte first, read from a slice and written into a lent buffer, and 64 bits as a signed number
-// and back (crate zigzag has the other widths).
+// Numbers of 16, 32 and 64 bits with the highest byte first, read from a slice and written into a lent buffer.
 #![tactic(auto)]
 
 ghost use Rattle.std.specs.Prelude.{◌≡◌, ◌+◌, ◌≤◌, ◌<◌, length};
 ghost use Rattle.std.proofs.lemmas.List.Edits.{sets};
 ghost use Rattle.std.proofs.Math.Seq.{slice};
-ghost use Rattle.std.specs.Int.{w64};
-ghost use Rattle.std.proofs.Common.{to_z, of_z};
 ghost use Rattle.numbers.specs.Answers.{wrote_at, put_at};
 ghost use Rattle.big_endian.specs.Big.{big, big2, big4, big8};
 ghost use Rattle.big_endian.specs.Answers.{word16_at, word32_at, word64_at};
@@ -30,24 +27,6 @@ fn wide64(b: u8) -> u64
     ensures { result ≡ b }
 {
     b as u64
-}
-
-// The bits, read as a signed number, as zigzag's for the other widths.
-pub fn signed64(bits: u64) -> i64
-    ensures { result ≡ to_z w64 bits }
-{
-    if bits < 0x8000_0000_0000_0000 {
-        bits as i64
-    } else {
-        !((!bits) as i64)
-    }
-}
-
-// The bits of a signed number.
-pub fn bits64(n: i64) -> u64
-    ensures { result ≡ of_z w64 n }
-{
-    if 0 <= n { n as u64 } else { !((!n) as u64) }
 }
 
 // The two bytes from a place on, the first of them the highest.

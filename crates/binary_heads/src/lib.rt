@@ -31,34 +31,38 @@ pub enum KindRead {
     Refused(u8),
 }
 
+#[tactic(auto, using(crate::proofs::Cases::i16_cases))]
 pub fn read_i16(s: &[u8], place: Place) -> I16Read
     ensures { result ≡ int16_at binary s.now place.0 }
 {
     match big_endian::read_be16(s, place.0) {
-        Bits16::Got(bits, next) => I16Read::Got(zigzag::signed16(bits), Place(next)),
+        Bits16::Got(bits, next) => I16Read::Got(bits.cast_signed(), Place(next)),
         Bits16::Refused(why) => I16Read::Refused(why),
     }
 }
 
+#[tactic(auto, using(crate::proofs::Cases::i32_cases))]
 pub fn read_i32(s: &[u8], place: Place) -> I32Read
     ensures { result ≡ int32_at binary s.now place.0 }
 {
     match big_endian::read_be32(s, place.0) {
-        Bits32::Got(bits, next) => I32Read::Got(zigzag::signed32(bits), Place(next)),
+        Bits32::Got(bits, next) => I32Read::Got(bits.cast_signed(), Place(next)),
         Bits32::Refused(why) => I32Read::Refused(why),
     }
 }
 
+#[tactic(auto, using(crate::proofs::Cases::i64_cases))]
 pub fn read_i64(s: &[u8], place: Place) -> I64Read
     ensures { result ≡ int64_at binary s.now place.0 }
 {
     match big_endian::read_be64(s, place.0) {
-        Bits64::Got(bits, next) => I64Read::Got(big_endian::signed64(bits), Place(next)),
+        Bits64::Got(bits, next) => I64Read::Got(bits.cast_signed(), Place(next)),
         Bits64::Refused(why) => I64Read::Refused(why),
     }
 }
 
 // A double's 64 bits.
+#[tactic(auto, using(crate::proofs::Cases::double_cases))]
 pub fn read_double(s: &[u8], place: Place) -> DoubleRead
     ensures { result ≡ double_at binary s.now place.0 }
 {
@@ -69,6 +73,7 @@ pub fn read_double(s: &[u8], place: Place) -> DoubleRead
 }
 
 // The Rust takes any byte but 0 for true.
+#[tactic(auto, using(crate::proofs::Cases::truth_cases))]
 pub fn read_bool(s: &[u8], place: Place) -> BoolRead
     ensures { result ≡ truth_at binary s.now place.0 }
 {
@@ -84,6 +89,7 @@ pub fn read_bool(s: &[u8], place: Place) -> BoolRead
 }
 
 // The next n bytes, if they are there.
+#[tactic(auto, using(heads::proofs::Cases::some_cases))]
 fn some(s: &[u8], from: usize, n: usize) -> PartRead
     requires { from ≤ length s.now }
     ensures { result ≡ some_at s.now n from }
@@ -95,6 +101,7 @@ fn some(s: &[u8], from: usize, n: usize) -> PartRead
 }
 
 // So many bytes: the length is checked before a byte is missed.
+#[tactic(auto, using(crate::proofs::Cases::sized_cases))]
 fn sized(s: &[u8], from: usize, n: u32, limits: TConfiguration) -> PartRead
     requires { from ≤ length s.now }
     ensures { result ≡ sized_at s.now limits n from }
@@ -108,6 +115,7 @@ fn sized(s: &[u8], from: usize, n: u32, limits: TConfiguration) -> PartRead
     some(s, from, n as usize)
 }
 
+#[tactic(auto, using(crate::proofs::Cases::bytes_cases))]
 pub fn read_bytes(s: &[u8], place: Place, limits: TConfiguration) -> PartRead
     ensures { result ≡ binary_at binary s.now limits place.0 }
 {
@@ -117,6 +125,7 @@ pub fn read_bytes(s: &[u8], place: Place, limits: TConfiguration) -> PartRead
     }
 }
 
+#[tactic(auto, using(crate::proofs::Cases::text_cases))]
 pub fn read_string(s: &[u8], place: Place, limits: TConfiguration) -> PartRead
     ensures { result ≡ text_at s.now limits place.0 }
 {
@@ -134,6 +143,7 @@ pub fn read_string(s: &[u8], place: Place, limits: TConfiguration) -> PartRead
 }
 
 // A type by its code.
+#[tactic(auto, using(crate::proofs::Cases::kind_cases))]
 fn read_kind(s: &[u8], at: usize) -> KindRead
     ensures { result ≡ kind_at s.now at }
 {
@@ -147,6 +157,7 @@ fn read_kind(s: &[u8], at: usize) -> KindRead
 }
 
 // What a list's header says, whatever stands behind it.
+#[tactic(auto, using(crate::proofs::Cases::list_cases))]
 fn list_header(s: &[u8], place: Place, limits: TConfiguration) -> ListHead
     ensures { result ≡ items_at binary s.now limits place.0 }
 {
@@ -166,6 +177,7 @@ fn list_header(s: &[u8], place: Place, limits: TConfiguration) -> ListHead
 }
 
 // A header whose elements can't be there is refused, before a caller reserves room for them.
+#[tactic(auto, using(crate::proofs::Ahead::list_head_cases))]
 pub fn read_list_begin(s: &[u8], place: Place, limits: TConfiguration) -> ListHead
     ensures { result ≡ items_head_at binary s.now limits place.0 }
 {
@@ -181,6 +193,7 @@ pub fn read_list_begin(s: &[u8], place: Place, limits: TConfiguration) -> ListHe
 }
 
 // A map's count, once its types are read.
+#[tactic(auto, using(crate::proofs::Cases::paired_cases))]
 fn paired(s: &[u8], at: usize, key: TType, value: TType, limits: TConfiguration) -> MapHead
     ensures { result ≡ paired_at s.now limits key value at }
 {
@@ -209,6 +222,7 @@ fn map_header(s: &[u8], place: Place, limits: TConfiguration) -> MapHead
     }
 }
 
+#[tactic(auto, using(crate::proofs::Ahead::map_head_cases))]
 pub fn read_map_begin(s: &[u8], place: Place, limits: TConfiguration) -> MapHead
     ensures { result ≡ pairs_head_at binary s.now limits place.0 }
 {
@@ -228,6 +242,7 @@ pub fn read_map_begin(s: &[u8], place: Place, limits: TConfiguration) -> MapHead
 }
 
 // The id is written out, so that no other has a say; a bool's value stands behind the header, as any other's.
+#[tactic(auto, using(crate::proofs::Cases::field_cases))]
 pub fn read_field_begin(s: &[u8], place: Place) -> FieldHead
     ensures { result ≡ field_at binary s.now (pos 0) place.0 }
 {
@@ -257,7 +272,7 @@ fn named(s: &[u8], at: usize, kind: TMessageType, limits: TConfiguration) -> Mes
         PartRead::Got(start, end) => match big_endian::read_be32(s, end.0) {
             Bits32::Refused(why) => MessageHead::Refused(why),
             Bits32::Got(bits, next) => {
-                MessageHead::Got(kind, SeqNo(zigzag::signed32(bits)), start, end, Place(next))
+                MessageHead::Got(kind, SeqNo(bits.cast_signed()), start, end, Place(next))
             }
         },
     }
@@ -267,6 +282,7 @@ const BINARY_PROTOCOL_VERSION_1: u32 = 0x8001;
 
 // The strict encoding alone. The third byte is ignored, and the fourth is the message's type whole: a leading bit that is set makes it
 // none.
+#[tactic(auto, using(crate::proofs::Cases::message_cases))]
 pub fn read_message_begin(s: &[u8], place: Place, limits: TConfiguration) -> MessageHead
     ensures { result ≡ message_at s.now limits place.0 }
 {

@@ -10,6 +10,7 @@ use types::TType;
 
 impl TBinaryInputProtocol {
     // The strict encoding alone.
+    #[tactic(auto, using(crate::proofs::Cases::message_cases))]
     pub fn read_message_begin(self, s: &[u8]) -> ReadMessage
         ensures { result ≡ read_message s.now self }
     {
@@ -40,6 +41,7 @@ impl TBinaryInputProtocol {
     }
 
     // No header here is of a bool with its value: that of a bool field is any field's.
+    #[tactic(auto, using(crate::proofs::Cases::field_cases))]
     pub fn read_field_begin(self, s: &[u8]) -> ReadField
         ensures { result ≡ read_field s.now self }
     {
@@ -81,6 +83,7 @@ impl TBinaryInputProtocol {
         }
     }
 
+    #[tactic(auto, using(crate::proofs::Cases::list_cases))]
     pub fn read_list_begin(self, s: &[u8]) -> ReadList
         ensures { result ≡ read_list s.now self }
     {
@@ -109,12 +112,14 @@ impl TBinaryInputProtocol {
     }
 
     // A set's header is a list's.
+    #[tactic(auto, using(crate::proofs::Cases::set_is))]
     pub fn read_set_begin(self, s: &[u8]) -> ReadList
         ensures { result ≡ read_set s.now self }
     {
         self.read_list_begin(s)
     }
 
+    #[tactic(auto, using(crate::proofs::Cases::map_cases))]
     pub fn read_map_begin(self, s: &[u8]) -> ReadMap
         ensures { result ≡ read_map s.now self }
     {

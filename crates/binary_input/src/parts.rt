@@ -6,6 +6,7 @@ use crate::TBinaryInputProtocol;
 use input::{MessageAnswer, PartAnswer};
 
 impl TBinaryInputProtocol {
+    #[tactic(auto, using(crate::proofs::Handed::message_parts))]
     pub fn message_name(self, s: &[u8]) -> &[u8]
         ensures { result.now ≡ name_part s.now self }
     {
@@ -21,6 +22,7 @@ impl TBinaryInputProtocol {
         }
     }
 
+    #[tactic(auto, using(crate::proofs::Handed::bytes_parts))]
     pub fn bytes(self, s: &[u8]) -> &[u8]
         ensures { result.now ≡ bytes_part s.now self }
     {
@@ -36,6 +38,7 @@ impl TBinaryInputProtocol {
         }
     }
 
+    #[tactic(auto, using(crate::proofs::Handed::string_parts))]
     pub fn string(self, s: &[u8]) -> &[u8]
         ensures { result.now ≡ string_part s.now self }
     {
@@ -51,6 +54,7 @@ impl TBinaryInputProtocol {
         }
     }
 
+    #[tactic(auto, using(crate::proofs::Handed::uuid_parts))]
     pub fn uuid(self, s: &[u8]) -> &[u8]
         ensures { result.now ≡ uuid_part s.now self }
     {

@@ -10,6 +10,7 @@ use input::{BoolAnswer, DoubleAnswer, I8Answer, I16Answer, I32Answer, I64Answer,
 
 impl TBinaryInputProtocol {
     // A bool is a byte, in a field too: none ever waits.
+    #[tactic(auto, using(crate::proofs::Cases::bool_cases))]
     pub fn read_bool(self, s: &[u8]) -> ReadBool
         ensures { result ≡ read_bool s.now self }
     {
@@ -37,6 +38,7 @@ impl TBinaryInputProtocol {
         }
     }
 
+    #[tactic(auto, using(crate::proofs::Cases::i8_cases))]
     pub fn read_i8(self, s: &[u8]) -> ReadI8
         ensures { result ≡ read_i8 s.now self }
     {
@@ -64,6 +66,7 @@ impl TBinaryInputProtocol {
         }
     }
 
+    #[tactic(auto, using(crate::proofs::Cases::i16_cases))]
     pub fn read_i16(self, s: &[u8]) -> ReadI16
         ensures { result ≡ read_i16 s.now self }
     {
@@ -91,6 +94,7 @@ impl TBinaryInputProtocol {
         }
     }
 
+    #[tactic(auto, using(crate::proofs::Cases::i32_cases))]
     pub fn read_i32(self, s: &[u8]) -> ReadI32
         ensures { result ≡ read_i32 s.now self }
     {
@@ -118,6 +122,7 @@ impl TBinaryInputProtocol {
         }
     }
 
+    #[tactic(auto, using(crate::proofs::Cases::i64_cases))]
     pub fn read_i64(self, s: &[u8]) -> ReadI64
         ensures { result ≡ read_i64 s.now self }
     {
@@ -145,6 +150,7 @@ impl TBinaryInputProtocol {
         }
     }
 
+    #[tactic(auto, using(crate::proofs::Cases::double_cases))]
     pub fn read_double(self, s: &[u8]) -> ReadDouble
         ensures { result ≡ read_double s.now self }
     {
@@ -172,6 +178,7 @@ impl TBinaryInputProtocol {
         }
     }
 
+    #[tactic(auto, using(crate::proofs::Cases::uuid_cases))]
     pub fn read_uuid(self, s: &[u8]) -> ReadPart
         ensures { result ≡ read_uuid s.now self }
     {
@@ -199,6 +206,7 @@ impl TBinaryInputProtocol {
         }
     }
 
+    #[tactic(auto, using(crate::proofs::Cases::bytes_cases))]
     pub fn read_bytes(self, s: &[u8]) -> ReadPart
         ensures { result ≡ read_bytes s.now self }
     {
@@ -226,6 +234,7 @@ impl TBinaryInputProtocol {
         }
     }
 
+    #[tactic(auto, using(crate::proofs::Cases::string_cases))]
     pub fn read_string(self, s: &[u8]) -> ReadPart
         ensures { result ≡ read_string s.now self }
     {

@@ -1,83 +1,86 @@
-// Makes rows of the binary writer's calls. Standard input is a row of frames: a line that begins with the number of the frame's bytes and goes on with what it is,
+// Makes rows of the binary writer's calls. Standard input is a row of cases: a line that begins with the number of the case's bytes and goes on with what it is,
 // and then those bytes. The line is written again, and below it what the calls answer. What a model answered, in the same form, is the file stdout.
 //
-// A frame is a writer's state in eight numbers, 4 bytes each, lowest first (the limits on depth, strings and containers, the ceiling, the place, where the message
+// A case is a writer's state in eight numbers, 4 bytes each, lowest first (the limits on depth, strings and containers, the ceiling, the place, where the message
 // began, the depth, the buffer's length), and then calls. A call is its number, two bytes a and b, a number of 8 bytes, lowest first, a length of 4, and so many bytes.
 // Each answers the place behind it, or `refused N`, and the next goes on from the state that it hands back. The whole buffer, in which each byte was aa, stands
 // last, so that a refused call is seen to have kept it.
 #![tactic(auto)]
 
-ghost use Rattle.std.specs.Prelude.{◌≡◌, length, ◌≤◌, ◌<◌, IfOk};
-ghost use Rattle.system.specs.Counts.{IsPrefixLen};
+ghost use Rattle.std.specs.Prelude.{length};
+ghost use Rattle.std.specs.Iterator.{at_most};
 
 use binary_output::{BinaryWritten, TBinaryOutputProtocol};
-use numbers::{Bits32, Bits64};
 use output::WriteAnswer;
+use std::alloc::Global;
 use std::io;
 use types::{
     FieldId, MessageTypeRead, Place, SeqNo, TConfiguration, TMessageType, TType, TypeRead,
 };
 
+// The most that is read, and that is written of a case.
+const ROW: usize = 524_288;
+
+const TEXT_ROOM: usize = 8192;
+
+// The longest buffer that is lent, and what it is filled with.
+const LENT: usize = 4096;
+
 const MARK: u8 = 0xaa;
 
-// The bytes of a call before its own.
-const CALL: usize = 15;
+// The bytes of a state, and those of a call before its own.
+const STATE: usize = 32;
 
-// Rooms, by functions that say no more than how many: a proof that sees the array would compute it.
-fn file_room() -> [u8; 524288]
-    ensures { 524288 ≡ length result }
-{
-    [0; 524288]
+const HEAD: usize = 15;
+
+// The number at a place of a state.
+fn size_at(state: &[u8], at: usize) -> usize {
+    cases::number_at(state, at) as usize
 }
 
-fn text_room() -> [u8; 8192]
-    ensures { 8192 ≡ length result }
-{
-    [0; 8192]
-}
-
-fn within(n: usize, out: &[u8]) -> usize
-    ensures { IsPrefixLen result out.now }
-{
-    if n < out.len() {
-        return n;
-    }
-    out.len()
-}
-
-// The number of four bytes at a place, and of eight; 0 where they are not there.
-fn number_at(s: &[u8], at: usize) -> u32 {
-    match numbers::read_le32(s, at) {
-        Bits32::Got(n, _) => n,
-        Bits32::Refused(_) => 0,
-    }
-}
-
-fn size_at(s: &[u8], at: usize) -> usize {
-    match numbers::read_le32(s, at) {
-        Bits32::Got(n, _) => n as usize,
-        Bits32::Refused(_) => 0,
-    }
-}
-
-fn long_at(s: &[u8], at: usize) -> u64 {
-    match numbers::read_le64(s, at) {
-        Bits64::Got(n, _) => n,
-        Bits64::Refused(_) => 0,
-    }
-}
-
-fn state_of(s: &[u8]) -> TBinaryOutputProtocol {
+fn state_of(state: &[u8]) -> TBinaryOutputProtocol {
     TBinaryOutputProtocol {
-        place: Place(size_at(s, 16)),
-        depth: size_at(s, 24),
+        place: Place(size_at(state, 16)),
+        depth: size_at(state, 24),
         limits: TConfiguration {
-            depth: size_at(s, 0),
-            string: number_at(s, 4),
-            container: number_at(s, 8),
-            message: number_at(s, 12),
+            depth: size_at(state, 0),
+            string: cases::number_at(state, 4),
+            container: cases::number_at(state, 8),
+            message: cases::number_at(state, 12),
         },
-        begin: Place(size_at(s, 20)),
+        begin: Place(size_at(state, 20)),
+    }
+}
+
+#[derive(Clone, Copy)]
+struct Call<'a> {
+    name: u8,
+    a: u8,
+    b: u8,
+    n: u64,
+    bytes: &'a [u8],
+}
+
+// The calls that are left of a case: each has its own bytes behind it, and the first that is cut short ends the row.
+#[derive(Drop)]
+struct Calls<'a>(&'a [u8]);
+
+impl<'a> Iterator for Calls<'a> {
+    type Item = Call<'a>;
+
+    ghost remaining = { λ s. at_most (length s.0.now) };
+
+    fn next(&mut self) -> Option<Call<'a>> {
+        let (head, behind) = self.0.split_first_chunk::<HEAD>()?;
+        let (bytes, rest) = behind.split_at_checked(size_at(head, 11))?;
+        self.0 = rest;
+        Some(Call {
+            name: head[0],
+            a: head[1],
+            b: head[2],
+            n: cases::long_at(head, 3),
+            bytes,
+        })
     }
 }
 
@@ -98,11 +101,11 @@ fn message_kind(code: u8) -> TMessageType {
 
 // Numbers of 16 and 32 bits: the low bits of n.
 fn short(n: u64) -> i16 {
-    zigzag::signed16((n % 0x1_0000) as u16)
+    ((n % 0x1_0000) as u16).cast_signed()
 }
 
 fn word(n: u64) -> i32 {
-    zigzag::signed32((n % 0x1_0000_0000) as u32)
+    ((n % 0x1_0000_0000) as u32).cast_signed()
 }
 
 fn uuid(st: TBinaryOutputProtocol, buf: &mut [u8], bytes: &[u8]) -> BinaryWritten {
@@ -112,17 +115,10 @@ fn uuid(st: TBinaryOutputProtocol, buf: &mut [u8], bytes: &[u8]) -> BinaryWritte
 }
 
 // One call: the headers, and the values.
-fn call(
-    st: TBinaryOutputProtocol,
-    buf: &mut [u8],
-    name: u8,
-    a: u8,
-    b: u8,
-    n: u64,
-    bytes: &[u8],
-) -> BinaryWritten {
+fn make(st: TBinaryOutputProtocol, buf: &mut [u8], call: Call<'_>) -> BinaryWritten {
+    let Call { name, a, b, n, .. } = call;
     match name {
-        1 => st.write_message_begin(buf, message_kind(a), SeqNo(word(n)), bytes),
+        1 => st.write_message_begin(buf, message_kind(a), SeqNo(word(n)), call.bytes),
         2 => st.write_struct_begin(buf),
         3 => st.write_struct_end(buf),
         4 => st.write_field_begin(buf, kind(a), FieldId(short(n))),
@@ -130,24 +126,18 @@ fn call(
         6 => st.write_list_begin(buf, kind(a), word(n)),
         7 => st.write_set_begin(buf, kind(a), word(n)),
         8 => st.write_map_begin(buf, kind(a), kind(b), word(n)),
-        _ => value(st, buf, name, a, n, bytes),
+        _ => value(st, buf, call),
     }
 }
 
-fn value(
-    st: TBinaryOutputProtocol,
-    buf: &mut [u8],
-    name: u8,
-    a: u8,
-    n: u64,
-    bytes: &[u8],
-) -> BinaryWritten {
-    match name {
+fn value(st: TBinaryOutputProtocol, buf: &mut [u8], call: Call<'_>) -> BinaryWritten {
+    let Call { a, n, bytes, .. } = call;
+    match call.name {
         9 => st.write_bool(buf, a != 0),
-        10 => st.write_i8(buf, zigzag::signed8(a)),
+        10 => st.write_i8(buf, a.cast_signed()),
         11 => st.write_i16(buf, short(n)),
         12 => st.write_i32(buf, word(n)),
-        13 => st.write_i64(buf, big_endian::signed64(n)),
+        13 => st.write_i64(buf, n.cast_signed()),
         14 => st.write_double(buf, n),
         15 => uuid(st, buf, bytes),
         16 => st.write_bytes(buf, bytes),
@@ -155,156 +145,46 @@ fn value(
     }
 }
 
-fn told(out: &mut [u8], to: usize, answer: WriteAnswer, place: usize) -> usize {
-    match answer {
-        WriteAnswer::Written => {
-            let p = text::put_decimal(out, to, place as u64);
-            text::put_byte(out, p, b' ')
-        }
+// The place, or the refusal, and a space.
+fn put_answer(out: &mut [u8], to: usize, answer: WriteAnswer, place: usize) -> usize {
+    let end = match answer {
+        WriteAnswer::Written => text::put_decimal(out, to, place as u64),
         WriteAnswer::Refused(why) => {
-            let p = text::put_word(out, to, b"refused ");
-            let q = text::put_decimal(out, p, wide(why) as u64);
-            text::put_byte(out, q, b' ')
+            let behind = text::put_word(out, to, b"refused ");
+            text::put_decimal(out, behind, u64::from(why))
         }
+    };
+    text::put_byte(out, end, b' ')
+}
+
+// The calls one after the other, and the lent buffer.
+fn put_case(out: &mut [u8], lent: &mut [u8], state: &[u8], rest: &[u8]) -> usize {
+    let mut state = state_of(state);
+    let mut to = 0;
+    for call in Calls(rest) {
+        let written = make(state, lent, call);
+        state = written.state;
+        to = put_answer(out, to, written.answer, state.place.0);
     }
+    let end = text::put_bytes(out, to, lent);
+    text::put_byte(out, end, b'\n')
 }
 
-// The calls one after the other, each with its own bytes behind it.
-fn calls(st: TBinaryOutputProtocol, buf: &mut [u8], s: &[u8], out: &mut [u8]) -> usize {
-    let mut state = st;
-    let mut p: usize = 32;
-    let mut to: usize = 0;
-    while p < s.len() {
-        if s.len() - p < CALL {
-            return to;
-        }
-        let from = p + CALL;
-        let n = size_at(s, p + 11);
-        if s.len() - from < n {
-            return to;
-        }
-        let end = from + n;
-        let r = call(
-            state,
-            buf,
-            s[p],
-            s[p + 1],
-            s[p + 2],
-            long_at(s, p + 3),
-            &s[from..end],
-        );
-        let answer = r.answer;
-        state = r.state;
-        to = told(out, to, answer, state.place.0);
-        p = end;
-    }
-    to
-}
-
-fn fill(buf: &mut [u8]) {
-    let mut i: usize = 0;
-    while i < buf.len() {
-        buf[i] = MARK;
-        i = i + 1;
-    }
-}
-
-fn over(rt: &impl Print, buf: &mut [u8], s: &[u8]) -> io::Result<()> {
-    fill(buf);
-    let mut out = text_room();
-    let a = calls(state_of(s), buf, s, &mut out);
-    let b = text::put_bytes(&mut out, a, buf);
-    let c = text::put_byte(&mut out, b, b'\n');
-    let k = within(c, &out);
-    rt.write_all(&out[..k])
-}
-
-// A row over so many bytes, where there are as many.
-fn first(rt: &impl Print, space: &mut [u8], room: usize, s: &[u8]) -> io::Result<()> {
-    if space.len() < room {
+// A case that has its whole state, over so many bytes, where there are as many.
+fn show(alloc: Global, rt: &impl Print, s: &[u8]) -> io::Result<()> {
+    let room = size_at(s, 28);
+    if LENT < room {
         return Ok(());
     }
-    over(rt, &mut space[..room], s)
-}
-
-fn show(rt: &impl Print, s: &[u8]) -> io::Result<()> {
-    let mut space = system::buffer();
-    first(rt, &mut space, size_at(s, 28), s)
-}
-
-// The place of the line's end, or the input's.
-fn line_end(s: &[u8], from: usize) -> usize
-    ensures { from ≤ result }
-{
-    let mut i = from;
-    while i < s.len() {
-        if s[i] == b'\n' {
-            return i;
-        }
-        i = i + 1;
-    }
-    i
-}
-
-fn wide(b: u8) -> usize
-    ensures { result ≡ b }
-{
-    b as usize
-}
-
-// The number of up to five digits that a line begins with.
-fn number(s: &[u8], from: usize) -> usize
-    ensures { result < 100000 }
-{
-    let mut i = from;
-    let mut n: usize = 0;
-    while i < s.len() {
-        let d = s[i];
-        if d < b'0' {
-            return n;
-        }
-        if b'9' < d {
-            return n;
-        }
-        if 9999 < n {
-            return n;
-        }
-        n = n * 10 + wide(d - b'0');
-        i = i + 1;
-    }
-    n
-}
-
-// One frame; the place behind it, which is the input's end where the frame is cut short.
-fn frame(rt: &impl Print, s: &[u8], p: usize) -> io::Result<usize>
-    requires { p < length s.now }
-    ensures { IfOk result (λ z. p < z) }
-{
-    let e = line_end(s, p);
-    if s.len() <= e {
-        return Ok(s.len());
-    }
-    let a = e + 1;
-    let n = number(s, p);
-    rt.write_all(&s[p..a])?;
-    if s.len() - a < n {
-        return Ok(s.len());
-    }
-    let z = a + n;
-    show(rt, &s[a..z])?;
-    Ok(z)
-}
-
-fn run(rt: &impl Print, s: &[u8]) -> io::Result<()> {
-    let mut p: usize = 0;
-    while p < s.len() {
-        p = frame(rt, s, p)?;
-    }
-    Ok(())
+    let mut lent = vec![in alloc; MARK; room]?;
+    system::print_text(alloc, rt, TEXT_ROOM, |out| {
+        let (state, rest) = s.split_at(STATE.min(s.len()));
+        put_case(out, &mut lent, state, rest)
+    })
 }
 
 fn main(rt: HostRuntime) -> io::Result<()> {
-    let mut input = file_room();
-    let n = system::read_full(&mut rt.stdin(), &mut input);
-    run(&rt, &input[..n])
+    cases::answer_all(rt.alloc(), &mut rt.stdin(), &rt, ROW, |_, s| {
+        show(rt.alloc(), &rt, s)
+    })
 }

@@ -290,7 +290,7 @@ impl TBinaryOutputProtocol {
             return self.refused(why);
         }
         let at = self.place.0;
-        let wrote = numbers::write_byte(buf, at, zigzag::bits8(n));
+        let wrote = numbers::write_byte(buf, at, n.cast_unsigned());
         self.moved(wrote)
     }
 
@@ -302,7 +302,7 @@ impl TBinaryOutputProtocol {
             return self.refused(why);
         }
         let at = self.place.0;
-        let wrote = big_endian::write_be16(buf, at, zigzag::bits16(n));
+        let wrote = big_endian::write_be16(buf, at, n.cast_unsigned());
         self.moved(wrote)
     }
 
@@ -314,7 +314,7 @@ impl TBinaryOutputProtocol {
             return self.refused(why);
         }
         let at = self.place.0;
-        let wrote = big_endian::write_be32(buf, at, zigzag::bits32(n));
+        let wrote = big_endian::write_be32(buf, at, n.cast_unsigned());
         self.moved(wrote)
     }
 
@@ -326,7 +326,7 @@ impl TBinaryOutputProtocol {
             return self.refused(why);
         }
         let at = self.place.0;
-        let wrote = big_endian::write_be64(buf, at, big_endian::bits64(n));
+        let wrote = big_endian::write_be64(buf, at, n.cast_unsigned());
         self.moved(wrote)
     }
 

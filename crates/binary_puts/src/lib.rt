@@ -61,7 +61,7 @@ pub fn field_header(buf: &mut [u8], at: usize, kind: TType, id: FieldId) -> Wrot
     }
     let code = binary_codes::field_type_to_u8(kind);
     numbers::write_byte(buf, at, code);
-    let bits = zigzag::bits16(id.0);
+    let bits = id.0.cast_unsigned();
     big_endian::write_be16(buf, at + 1, bits)
 }
 
@@ -114,7 +114,7 @@ pub fn message(buf: &mut [u8], at: usize, kind: TMessageType, sequence: SeqNo, n
     ensures { (result ≡ wrote_at buf.old at (message_bytes kind sequence.0 name.now)) × (buf.new ≡ put_at buf.old at (message_bytes kind sequence.0 name.now)) }
 {
     let code = types::message_type_to_u8(kind);
-    let bits = zigzag::bits32(sequence.0);
+    let bits = sequence.0.cast_unsigned();
     envelope(
         buf,
         at,

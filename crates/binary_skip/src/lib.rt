@@ -38,6 +38,7 @@ fn is_fixed(kind: TType) -> bool
 }
 
 // The next n bytes, if they are there.
+#[tactic(auto, using(skip::proofs::Leaf::some_cases))]
 fn skip_some(s: &[u8], at: usize, n: usize) -> Skipped
     ensures { result ≡ past (some n) s.now at }
 {
@@ -53,6 +54,7 @@ fn skip_some(s: &[u8], at: usize, n: usize) -> Skipped
     Skipped::Done(Place(at + n))
 }
 
+#[tactic(auto, using(crate::proofs::Leaf::leaf_ends))]
 fn skip_bool(s: &[u8], at: Place) -> Skipped
     ensures { result ≡ past binary.truth s.now at.0 }
 {
@@ -63,6 +65,7 @@ fn skip_bool(s: &[u8], at: Place) -> Skipped
 }
 
 // A string's bytes are passed over unseen: skip checks no UTF-8.
+#[tactic(auto, using(crate::proofs::Leaf::leaf_ends))]
 fn skip_bytes(s: &[u8], at: Place, limits: TConfiguration) -> Skipped
     ensures { result ≡ past (binary.binary limits) s.now at.0 }
 {
@@ -73,6 +76,7 @@ fn skip_bytes(s: &[u8], at: Place, limits: TConfiguration) -> Skipped
 }
 
 // One value where no container may be entered. Those of a fixed size are one comparison.
+#[tactic(auto, using(crate::proofs::Leaf::leaf_cases))]
 fn skip_leaf(s: &[u8], at: Place, kind: TType, limits: TConfiguration) -> Skipped
     ensures { result ≡ skip_by binary s.now limits 0 kind at.0 }
 {

@@ -91,6 +91,7 @@ fn counts_on(state: TCompactInputProtocol, s: &[u8]) -> ReadCounts
 
 // How many of the doubles in the struct at the reader's place an f32 holds, how many it does not, and how many are not a number. The reader moves behind the
 // struct, as skip of it does.
+#[tactic(auto, using(crate::proofs::Call::call_cases))]
 pub fn f32_counts(state: TCompactInputProtocol, s: &[u8]) -> ReadCounts
     ensures { result ≡ counts_call s.now state }
 {
@@ -111,6 +112,7 @@ fn refuse_row(why: u8, state: TCompactInputProtocol) -> ReadRow
 }
 
 // The walk once more, over a struct that has been counted: now the row gets the answers.
+#[tactic(auto, using(crate::proofs::Answers::put_cases))]
 fn put_answers(state: TCompactInputProtocol, s: &[u8], row: &mut [u8])
     requires { state.depth ≤ state.limits.depth }
     ensures { (t : Tree) → (ahead s.now state).said ≡ says t → row.new ≡ (jot_all (doubles_of t) (none, row.old)).1 }

@@ -192,6 +192,7 @@ fn walk_run(s: &[u8], at: Place, last: FieldId, counts: Counts, row: &mut [u8]) 
 }
 
 // A value that holds no double, or is refused: it is skip's.
+#[tactic(auto, using(crate::proofs::Cases::past_cases))]
 fn walk_past(
     s: &[u8],
     at: Place,

@@ -8,6 +8,7 @@ ghost use Rattle.frame.specs.Moves.{weight_of, grown, short_id, long_id, head_mo
 ghost use Rattle.frame.specs.Turns.{width_of, in_room, begun, value_turn, up_turn, item_turn, pair_turn, second_turn, turned, near_pass, near_value, near_move};
 
 use types::{FieldId, FieldType, TConfiguration, TType, TypeRead};
+use zigzag::Zigzag;
 
 mod whole;
 
@@ -154,7 +155,7 @@ fn long_id(n: u32) -> ShortId
     ensures { result ≡ long_id n }
 {
     if n < 0x1_0000 {
-        return ShortId::Got(FieldId(zigzag::zigzag_to_i16(n as u16)));
+        return ShortId::Got(FieldId(i16::from_zigzag(n as u16)));
     }
     ShortId::Over
 }

@@ -11,7 +11,7 @@ fn is_first(top: Nest) -> bool
     ensures { result ≡ is_first top }
 {
     match top {
-        Nest::Fields(id) => zigzag::bits16(id.0) == 0,
+        Nest::Fields(id) => id.0 == 0,
         Nest::Items(_, _) => false,
         Nest::Keys(_, _, _) => false,
         Nest::Values(_, _, _) => false,

@@ -17,6 +17,7 @@ pub(crate) fn type_of(n: u64) -> TypeRead
     TypeRead::Refused(types::BAD_STATE)
 }
 
+#[tactic(auto, using(crate::proofs::Cases::pairs))]
 fn pair_of(form: u64, key: TType, v: u64, count: u32) -> NestRead
     ensures { result ≡ pair_of form key count (type_of v) }
 {
@@ -34,6 +35,7 @@ fn pair_of(form: u64, key: TType, v: u64, count: u32) -> NestRead
     }
 }
 
+#[tactic(auto, using(crate::proofs::Cases::items))]
 fn item_of(form: u64, k: u64, v: u64, count: u32) -> NestRead
     ensures { result ≡ item_of form v count (type_of k) }
 {
@@ -48,6 +50,7 @@ fn item_of(form: u64, k: u64, v: u64, count: u32) -> NestRead
     }
 }
 
+#[tactic(auto, using(crate::proofs::Cases::nests))]
 fn nest_of(form: u64, k: u64, v: u64, n: u64) -> NestRead
     ensures { result ≡ nest_of form k v n }
 {
@@ -76,6 +79,7 @@ pub(crate) fn nest_at(row: &[u64], i: usize) -> NestRead
     nest_of(form, k, v, n)
 }
 
+#[tactic(auto, using(crate::proofs::Puts::typed_puts))]
 fn put_typed(row: &mut [u64], i: usize, form: u64, key: TType, n: u32)
     requires { i < 64 }
     ensures { row.new ≡ put_typed row.old i form key n }
@@ -125,6 +129,7 @@ pub(crate) fn all_nests(row: &[u64], depth: usize) -> bool
     true
 }
 
+#[tactic(auto, using(crate::proofs::Cases::or_nests))]
 fn nest_or(row: &[u64], i: usize) -> Nest
     requires { i < 64 }
     ensures { result ≡ nest_or (nest_in row.now i) }

@@ -7,6 +7,7 @@ use frame::{Goal, Now, Part, Wait};
 use rows::row;
 use types::TypeRead;
 
+#[tactic(auto, using(crate::proofs::Cases::goals))]
 fn goal_of(g: u64, t: u64) -> GoalRead
     ensures { result ≡ goal_of g t }
 {
@@ -37,6 +38,7 @@ fn goal_of(g: u64, t: u64) -> GoalRead
     GoalRead::Refused
 }
 
+#[tactic(auto, using(crate::proofs::Cases::varints))]
 fn varint_of(n: u64, g: u64, t: u64, groups: u64) -> NowRead
     ensures { result ≡ varint_of n g t groups }
 {
@@ -56,6 +58,7 @@ fn varint_of(n: u64, g: u64, t: u64, groups: u64) -> NowRead
     NowRead::Refused
 }
 
+#[tactic(auto, using(crate::proofs::Cases::nows))]
 fn now_of(form: u64, n: u64, g: u64, t: u64, groups: u64) -> NowRead
     ensures { result ≡ now_of form n g t groups }
 {
@@ -123,6 +126,7 @@ fn put_goal(row: &mut [u64], goal: Goal)
 }
 
 // A form with a number of its own.
+#[tactic(auto, using(crate::proofs::Puts::form_puts))]
 fn put_form(row: &mut [u64], form: u64, n: u64)
     ensures { row.new ≡ put_form row.old form n }
 {

@@ -15,6 +15,7 @@ const NUMBERS: usize = 268;
 pub const MORE: u8 = 255;
 
 // Whether a row holds a state.
+#[tactic(auto, using(crate::proofs::Cases::holding))]
 fn is_held(row: &[u64]) -> bool
     ensures { result ≡ holds row.now }
 {
@@ -31,6 +32,7 @@ fn is_held(row: &[u64]) -> bool
     }
 }
 
+#[tactic(auto, using(crate::proofs::Cases::resting))]
 fn rest_of(row: &[u64]) -> Resting
     ensures { result ≡ rest_in row.now }
 {
@@ -40,6 +42,7 @@ fn rest_of(row: &[u64]) -> Resting
     }
 }
 
+#[tactic(auto, using(crate::proofs::Puts::frames))]
 fn frame_in(row: &[u64]) -> FrameSkip
     requires { get_or row.now 5 0 ≤ 64 }
     ensures { result ≡ frame_in row.now }
@@ -67,6 +70,7 @@ fn frame_in(row: &[u64]) -> FrameSkip
     }
 }
 
+#[tactic(auto, unfolding(crate::specs::Row::no_frame))]
 fn no_frame() -> FrameSkip
     ensures { result ≡ no_frame }
 {
@@ -94,6 +98,7 @@ fn no_frame() -> FrameSkip
 }
 
 // The state that a row holds; of any other row one that every call refuses.
+#[tactic(auto, using(crate::proofs::Puts::frames))]
 pub fn frame_of(row: &[u64]) -> FrameSkip
     ensures { result ≡ frame_of row.now }
 {
@@ -103,6 +108,7 @@ pub fn frame_of(row: &[u64]) -> FrameSkip
     no_frame()
 }
 
+#[tactic(auto, using(crate::proofs::Puts::most))]
 fn most_open(depth: usize) -> usize
     ensures { (result ≡ most_open depth) × (result ≤ 64) }
 {
@@ -112,6 +118,7 @@ fn most_open(depth: usize) -> usize
     64
 }
 
+#[tactic(auto, using(crate::proofs::Puts::number_puts))]
 fn put_counts(row: &mut [u64], left: usize, taken: usize, behind: usize)
     ensures { row.new ≡ put_counts row.old left taken behind }
 {
@@ -120,6 +127,7 @@ fn put_counts(row: &mut [u64], left: usize, taken: usize, behind: usize)
     row::put(row, 2, behind as u64);
 }
 
+#[tactic(auto, using(crate::proofs::Puts::number_puts))]
 fn put_places(row: &mut [u64], depth: usize, body: usize)
     ensures { row.new ≡ put_places row.old depth body }
 {
@@ -128,6 +136,7 @@ fn put_places(row: &mut [u64], depth: usize, body: usize)
 }
 
 // A state's numbers into the row; limits never change.
+#[tactic(auto, using(crate::proofs::Puts::state_puts))]
 pub fn keep(row: &mut [u64], state: FrameSkip)
     ensures { row.new ≡ framed row.old state }
 {
@@ -142,6 +151,7 @@ pub fn keep(row: &mut [u64], state: FrameSkip)
 }
 
 // The limits of a frame that begins, in the form of a reader's row.
+#[tactic(auto, using(crate::proofs::Puts::limit_puts))]
 pub fn limit(row: &mut [u64], depth: u32, string: u32, container: u32, message: u32)
     ensures { row.new ≡ limited row.old (record { depth = depth; string = string; container = container; message = message }) }
 {
@@ -150,6 +160,7 @@ pub fn limit(row: &mut [u64], depth: u32, string: u32, container: u32, message: 
 }
 
 // What a call answers, told: the row holds its state from now on; BAD STATE leaves it as it was.
+#[tactic(auto, using(crate::proofs::Puts::tells))]
 pub fn tell(row: &mut [u64], taken: Taken) -> u8
     ensures { (result ≡ number_frame taken.answer) × (row.new ≡ frame_after row.old taken.state taken.answer) }
 {

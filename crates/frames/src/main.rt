@@ -7,118 +7,80 @@ use std::io;
 use std::io::Read;
 use types::TConfiguration;
 
-#[derive(Clone, Copy)]
-enum Length {
-    Got(usize),
-    Missing,
-}
+// The most that one read takes.
+const BURST: usize = 65_536;
 
-fn limits() -> TConfiguration {
-    TConfiguration {
-        depth: 64,
-        string: 65_536,
-        container: 65_536,
-        message: 2_147_483_647,
-    }
-}
+// A read brings a byte or the end, so the turns outlast any frame.
+const TURNS: u64 = 4_294_967_296;
 
-// One byte of the first line: a line end or nothing more is no digit.
-fn next_byte(input: &mut impl Read) -> u8 {
+const LIMITS: TConfiguration = TConfiguration {
+    depth: 64,
+    string: 65_536,
+    container: 65_536,
+    message: 2_147_483_647,
+};
+
+// One byte of the first line.
+fn next_byte(input: &mut impl Read) -> Option<u8> {
     let mut byte = [0u8; 1];
     match input.read(&mut byte) {
-        Ok(0) | Err(_) => 0,
-        Ok(_) => byte[0],
+        Ok(0) | Err(_) => None,
+        Ok(_) => Some(byte[0]),
     }
 }
 
 // The number with one more digit, where it is one and there is room for it.
-fn longer(value: usize, b: u8) -> Length {
-    if b < 48 {
-        return Length::Missing;
+fn longer(value: usize, digit: u8) -> Option<usize> {
+    if !digit.is_ascii_digit() {
+        return None;
     }
-    if 57 < b {
-        return Length::Missing;
-    }
-    if 1_844_674_407_370_955_160 < value {
-        return Length::Missing;
-    }
-    Length::Got(value * 10 + ((b - 48) as usize))
+    value
+        .checked_mul(10)?
+        .checked_add(usize::from(digit - b'0'))
 }
 
-// The first line: at least one digit, no other byte, and a line end.
-fn read_length(input: &mut impl Read) -> Length {
-    let mut value = 0;
-    let mut digits: u8 = 0;
-    while digits < 20 {
-        let b = next_byte(input);
-        if b == b'\n' {
-            break;
+// The first line: one to 19 digits, no other byte (`parse` would take a sign), and a line end.
+fn read_length(input: &mut impl Read) -> Option<usize> {
+    let mut length = None;
+    for _ in 0..20 {
+        let byte = next_byte(input)?;
+        if byte == b'\n' {
+            return length;
         }
-        match longer(value, b) {
-            Length::Missing => {
-                return Length::Missing;
-            }
-            Length::Got(more) => {
-                value = more;
-            }
-        }
-        digits += 1;
+        length = Some(longer(length.unwrap_or(0), byte)?);
     }
-    if digits == 0 {
-        return Length::Missing;
-    }
-    if digits == 20 {
-        return Length::Missing;
-    }
-    Length::Got(value)
+    None
 }
 
 // One read, and what comes with it. No more input is a close.
-fn next_burst(input: &mut impl Read, state: FrameSkip) -> Taken {
-    let mut buf = system::large_buffer();
-    match input.read(&mut buf) {
+fn next_burst(input: &mut impl Read, burst: &mut [u8], state: FrameSkip) -> Taken {
+    match input.read(burst) {
         Ok(0) | Err(_) => state.close(),
-        Ok(n) => state.take(&buf[..n]),
+        Ok(n) => state.take(&burst[..n]),
     }
 }
 
-fn is_final(answer: FrameAnswer) -> bool {
-    match answer {
-        FrameAnswer::More => false,
-        FrameAnswer::Done(_) => true,
-        FrameAnswer::Refused(_) => true,
-    }
-}
-
-// An empty burst first: some frames have their answer with the announcement. A read brings a byte or the end, so the turns outlast any frame.
+// An empty burst first: some frames have their answer with the announcement.
 fn listen(input: &mut impl Read, length: usize) -> FrameAnswer {
-    let state = FrameSkip::announce(length, limits());
-    let mut taken = state.take(b"");
-    let mut turns: u64 = 4_294_967_296;
-    while 0 < turns {
-        let answer = taken.answer;
-        if is_final(answer) {
-            return answer;
+    let mut burst = system::buffer::<BURST>();
+    let mut taken = FrameSkip::announce(length, LIMITS).take(b"");
+    for _ in 0..TURNS {
+        if !matches!(taken.answer, FrameAnswer::More) {
+            break;
         }
-        let next = taken.state;
-        taken = next_burst(input, next);
-        turns -= 1;
+        taken = next_burst(input, &mut burst, taken.state);
     }
     taken.answer
 }
 
-fn tell(rt: &impl Print, answer: FrameAnswer) -> io::Result<()> {
-    match answer {
+fn main(rt: HostRuntime) -> io::Result<()> {
+    let mut input = rt.stdin();
+    let Some(length) = read_length(&mut input) else {
+        return eprintln!(rt; "frames: the first line must be the frame's length");
+    };
+    match listen(&mut input, length) {
         FrameAnswer::More => Ok(()),
         FrameAnswer::Done(used) => println!(rt; "done {used}"),
         FrameAnswer::Refused(why) => println!(rt; "refused {why}"),
-    }
-}
-
-fn main(rt: HostRuntime) -> io::Result<()> {
-    let mut input = rt.stdin();
-    match read_length(&mut input) {
-        Length::Missing => eprintln!(rt; "frames: the first line must be the frame's length"),
-        Length::Got(length) => tell(&rt, listen(&mut input, length)),
     }
 }

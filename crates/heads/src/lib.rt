@@ -10,6 +10,7 @@ use numbers::{Bits64, Int16, Varint32, Varint64};
 use types::{
     FieldId, MessageTypeRead, Place, SeqNo, TConfiguration, TMessageType, TType, TypeRead,
 };
+use zigzag::Zigzag;
 
 #[derive(Clone, Copy)]
 pub enum I8Read {
@@ -92,7 +93,7 @@ pub fn read_i8(s: &[u8], place: Place) -> I8Read
     if s.len() <= at {
         return I8Read::Refused(types::END);
     }
-    I8Read::Got(zigzag::signed8(s[at]), Place(at + 1))
+    I8Read::Got(s[at].cast_signed(), Place(at + 1))
 }
 
 pub fn read_i16(s: &[u8], place: Place) -> I16Read
@@ -108,7 +109,7 @@ pub fn read_i32(s: &[u8], place: Place) -> I32Read
     ensures { result ≡ int32_at s.now place.0 }
 {
     match numbers::read_varint32(s, place.0) {
-        Varint32::Got(n, next) => I32Read::Got(zigzag::zigzag_to_i32(n), Place(next)),
+        Varint32::Got(n, next) => I32Read::Got(i32::from_zigzag(n), Place(next)),
         Varint32::Refused(why) => I32Read::Refused(why),
     }
 }
@@ -117,7 +118,7 @@ pub fn read_i64(s: &[u8], place: Place) -> I64Read
     ensures { result ≡ int64_at s.now place.0 }
 {
     match numbers::read_varint64(s, place.0) {
-        Varint64::Got(n, next) => I64Read::Got(zigzag::zigzag_to_i64(n), Place(next)),
+        Varint64::Got(n, next) => I64Read::Got(i64::from_zigzag(n), Place(next)),
         Varint64::Refused(why) => I64Read::Refused(why),
     }
 }
@@ -401,7 +402,7 @@ fn named(s: &[u8], at: usize, kind: TMessageType, limits: TConfiguration) -> Mes
         Varint32::Got(n, next) => match read_string(s, Place(next), limits) {
             PartRead::Refused(why) => MessageHead::Refused(why),
             PartRead::Got(start, end) => {
-                MessageHead::Got(kind, SeqNo(zigzag::signed32(n)), start, end)
+                MessageHead::Got(kind, SeqNo(n.cast_signed()), start, end)
             }
         },
     }

@@ -1,5 +1,5 @@
 // The lines of the printing program, one call for each kind of line, into a lent buffer at a place: as much as fits, as in `text`.
-#![tactic(auto)]
+#![tactic(auto, using(text::proofs::Inks::inked_append), unfolding(crate::specs::Lines::line, crate::specs::Lines::spaced_type, crate::specs::Lines::spaced_int, crate::specs::Lines::last_number, crate::specs::Lines::last_bytes, crate::specs::Lines::scalar_text, text::specs::Pen::inked))]
 
 ghost use Rattle.std.specs.Prelude.{◌≡◌};
 ghost use Rattle.text.specs.Pen.{inked};
@@ -7,24 +7,6 @@ ghost use Rattle.lines.specs.Lines.{line, spaced_type, spaced_int, last_number, 
 
 use scalars::Scalar;
 use types::{FieldId, SeqNo, TMessageType, TType};
-
-fn wide8(n: u8) -> u64
-    ensures { result ≡ n }
-{
-    n as u64
-}
-
-fn wide32(n: u32) -> u64
-    ensures { result ≡ n }
-{
-    n as u64
-}
-
-fn wide_size(n: usize) -> u64
-    ensures { result ≡ n }
-{
-    n as u64
-}
 
 // " ", a type.
 fn put_type(out: &mut [u8], to: usize, kind: TType) -> usize
@@ -48,14 +30,14 @@ fn put_seq(out: &mut [u8], to: usize, seq: SeqNo) -> usize
     ensures { (out.new, result) ≡ inked (spaced_int seq.0) (out.old, to) }
 {
     let a = text::put_word(out, to, b" ");
-    text::put_int(out, a, scalars::i32_to_i64(seq.0))
+    text::put_int(out, a, i64::from(seq.0))
 }
 
 pub fn put_message(out: &mut [u8], to: usize, kind: TMessageType, seq: SeqNo, name: &[u8]) -> usize
     ensures { (out.new, result) ≡ inked (line (message kind seq.0 name.now)) (out.old, to) }
 {
     let a = text::put_word(out, to, b"message ");
-    let b = text::put_decimal(out, a, wide8(types::message_type_to_u8(kind)));
+    let b = text::put_decimal(out, a, u64::from(types::message_type_to_u8(kind)));
     let c = put_seq(out, b, seq);
     let d = text::put_word(out, c, b" ");
     put_part(out, d, name)
@@ -71,7 +53,7 @@ pub fn put_field(out: &mut [u8], to: usize, id: FieldId, kind: TType) -> usize
     ensures { (out.new, result) ≡ inked (line (field id.0 kind)) (out.old, to) }
 {
     let a = text::put_word(out, to, b"field ");
-    let b = text::put_int(out, a, scalars::i16_to_i64(id.0));
+    let b = text::put_int(out, a, i64::from(id.0));
     let c = put_type(out, b, kind);
     text::put_word(out, c, b"\n")
 }
@@ -88,7 +70,7 @@ pub fn put_items(out: &mut [u8], to: usize, whole: TType, kind: TType, count: u3
 {
     let a = text::put_type(out, to, whole);
     let b = put_type(out, a, kind);
-    put_count(out, b, wide32(count))
+    put_count(out, b, u64::from(count))
 }
 
 // An empty map has no types to be named.
@@ -101,7 +83,7 @@ pub fn put_map(out: &mut [u8], to: usize, key: TType, value: TType, count: u32) 
     let a = text::put_word(out, to, b"map");
     let b = put_type(out, a, key);
     let c = put_type(out, b, value);
-    put_count(out, c, wide32(count))
+    put_count(out, c, u64::from(count))
 }
 
 fn put_scalar_text(out: &mut [u8], to: usize, value: Scalar) -> usize
@@ -135,14 +117,14 @@ pub fn put_end(out: &mut [u8], to: usize, used: usize, left: usize) -> usize
     ensures { (out.new, result) ≡ inked (line (end used left)) (out.old, to) }
 {
     let a = text::put_word(out, to, b"end ");
-    let b = text::put_decimal(out, a, wide_size(used));
-    put_count(out, b, wide_size(left))
+    let b = text::put_decimal(out, a, used as u64);
+    put_count(out, b, left as u64)
 }
 
 pub fn put_refusal(out: &mut [u8], to: usize, why: u8) -> usize
     ensures { (out.new, result) ≡ inked (line (refusal why)) (out.old, to) }
 {
     let a = text::put_word(out, to, b"refused ");
-    let b = text::put_decimal(out, a, wide8(why));
+    let b = text::put_decimal(out, a, u64::from(why));
     text::put_word(out, b, b"\n")
 }

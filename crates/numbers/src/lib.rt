@@ -8,6 +8,8 @@ ghost use Rattle.numbers.specs.Varint.{fewest};
 ghost use Rattle.numbers.specs.Fixed.{little, four, eight};
 ghost use Rattle.numbers.specs.Answers.{varint32_at, varint64_at, signed16_at, bits32_at, bits64_at, wrote_at, put_at};
 
+use zigzag::Zigzag;
+
 // A number and the place behind it, or the number of a refusal: END, LONG VARINT, and of an i16 RANGE.
 #[derive(Clone, Copy)]
 pub enum Varint32 {
@@ -139,7 +141,7 @@ pub fn read_i16(s: &[u8], at: usize) -> Int16
     match read_varint32(s, at) {
         Varint32::Got(v, p) => {
             if v < 0x1_0000 {
-                return Int16::Got(zigzag::zigzag_to_i16(v as u16), p);
+                return Int16::Got(i16::from_zigzag(v as u16), p);
             }
             Int16::Refused(types::RANGE)
         }

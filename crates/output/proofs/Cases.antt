@@ -33,7 +33,6 @@ use Rattle.output.specs.Calls.{call, refused_by, written, settled, size_wrong, w
 use Rattle.output.specs.declared.Written.{Written}
 use Rattle.output.specs.declared.AwaitedField.{AwaitedField}
 use Rattle.output.specs.declared.AwaitedField.TheVariants as A
-use Rattle.puts.proofs.Deltas.{wide, wide_fits}
 use Rattle.puts.proofs.Pieces.{code_below, truth_below}
 use Rattle.puts.proofs.Checks.{both_none}
 use Rattle.output.proofs.Checks.{Sound, sound, begin_fits, end_fits, unsized, turn_over}
@@ -173,7 +172,7 @@ pub ruleset plain_cases = (stopped, stopped_left, went, went_left, size_of, doub
 
 pub ruleset message_cases = (stopped, stopped_left, went, went_left, size_of, message_size, to_z-of_z, sfits_of)
 
-pub ruleset int_cases = (stopped, stopped_left, went, went_left, int_over, int_is, wide, wide_fits, to_z-of_z, sfits_of)
+pub ruleset int_cases = (stopped, stopped_left, went, went_left, int_over, int_is, to_z-of_z, sfits_of)
 
 pub ruleset i8_cases = (stopped, stopped_left, went, went_left, size_of, byte_is, to_z-of_z, sfits_of)
 

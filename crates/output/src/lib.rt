@@ -11,6 +11,7 @@ ghost use Rattle.output.specs.Calls.{refused_by, settled, size_wrong, begin_wron
 use numbers::Wrote;
 use puts::wrong;
 use types::{FieldId, Place, SeqNo, TConfiguration, TMessageType, TType};
+use zigzag::Zigzag;
 
 // The bool field whose header waits for its value, if there is one.
 #[derive(Clone, Copy)]
@@ -414,27 +415,27 @@ impl TCompactOutputProtocol {
             return self.refused(why);
         }
         let at = self.place.0;
-        let wrote = numbers::write_byte(buf, at, zigzag::bits8(n));
+        let wrote = numbers::write_byte(buf, at, n.cast_unsigned());
         self.moved(wrote)
     }
 
     pub fn write_i16(self, buf: &mut [u8], n: i16) -> Written
         ensures { (result ≡ writes buf.old self (int_call self n)) × (buf.new ≡ leaves buf.old self (int_call self n)) }
     {
-        let z = zigzag::i32_to_zigzag(n as i32);
+        let z: u16 = n.to_zigzag();
         let why = self.refusal(buf.len(), self.over(0, numbers::varint_len(z as u64), 0));
         if why != 0 {
             return self.refused(why);
         }
         let at = self.place.0;
-        let wrote = numbers::write_varint32(buf, at, z);
+        let wrote = numbers::write_varint32(buf, at, z as u32);
         self.moved(wrote)
     }
 
     pub fn write_i32(self, buf: &mut [u8], n: i32) -> Written
         ensures { (result ≡ writes buf.old self (int_call self n)) × (buf.new ≡ leaves buf.old self (int_call self n)) }
     {
-        let z = zigzag::i32_to_zigzag(n);
+        let z: u32 = n.to_zigzag();
         let why = self.refusal(buf.len(), self.over(0, numbers::varint_len(z as u64), 0));
         if why != 0 {
             return self.refused(why);
@@ -447,7 +448,7 @@ impl TCompactOutputProtocol {
     pub fn write_i64(self, buf: &mut [u8], n: i64) -> Written
         ensures { (result ≡ writes buf.old self (int_call self n)) × (buf.new ≡ leaves buf.old self (int_call self n)) }
     {
-        let z = zigzag::i64_to_zigzag(n);
+        let z: u64 = n.to_zigzag();
         let why = self.refusal(buf.len(), self.over(0, numbers::varint_len(z), 0));
         if why != 0 {
             return self.refused(why);

@@ -48,7 +48,7 @@ fn print_i8(s: &[u8], at: Place, out: &mut [u8], to: usize) -> Printed
 {
     match heads::read_i8(s, at) {
         I8Read::Got(n, next) => {
-            let wide = scalars::i8_to_i64(n);
+            let wide = i64::from(n);
             Printed::Went(next, lines::put_scalar(out, to, Scalar::Int(wide)))
         }
         I8Read::Refused(why) => Printed::Stopped(why, to),
@@ -60,7 +60,7 @@ fn print_i16(s: &[u8], at: Place, out: &mut [u8], to: usize) -> Printed
 {
     match heads::read_i16(s, at) {
         I16Read::Got(n, next) => {
-            let wide = scalars::i16_to_i64(n);
+            let wide = i64::from(n);
             Printed::Went(next, lines::put_scalar(out, to, Scalar::Int(wide)))
         }
         I16Read::Refused(why) => Printed::Stopped(why, to),
@@ -72,7 +72,7 @@ fn print_i32(s: &[u8], at: Place, out: &mut [u8], to: usize) -> Printed
 {
     match heads::read_i32(s, at) {
         I32Read::Got(n, next) => {
-            let wide = scalars::i32_to_i64(n);
+            let wide = i64::from(n);
             Printed::Went(next, lines::put_scalar(out, to, Scalar::Int(wide)))
         }
         I32Read::Refused(why) => Printed::Stopped(why, to),
@@ -128,6 +128,7 @@ fn print_bytes(s: &[u8], at: Place, limits: TConfiguration, out: &mut [u8], to: 
 }
 
 // A value where no container may be entered.
+#[tactic(auto, using(crate::proofs::Leaf::leaf_cases))]
 fn print_leaf(
     s: &[u8],
     at: Place,
@@ -189,6 +190,7 @@ fn print_value(
 }
 
 // Whether a container's elements can begin: of the type Stop there are none.
+#[tactic(auto, using(skip::proofs::Cycle::begin_cases))]
 fn can_begin(kind: TType, count: u32) -> bool
     ensures { result ≡ startable kind count }
 {
@@ -409,6 +411,7 @@ fn print_field(
 }
 
 // A message's header, and its struct.
+#[tactic(auto, using(crate::proofs::Whole::message_cases))]
 fn print_message(
     s: &[u8],
     room: usize,

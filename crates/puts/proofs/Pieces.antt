@@ -29,7 +29,7 @@ use Rattle.numbers.proofs.Fewest.{fewest_len}
 use Rattle.numbers.proofs.Put.{wrote_to, length_put, put_put, roomy, scant, Storing, next_in, stored, all_to, all_in}
 use Rattle.numbers.proofs.Cases.{short_answer, short_left, begun}
 use Rattle.puts.specs.Bytes.{short_delta, field_bytes, items_bytes, pairs_bytes, string_bytes, message_bytes}
-use Rattle.puts.proofs.Deltas.{wide, wide_fits, delta_below}
+use Rattle.puts.proofs.Deltas.{delta_below}
 
 -- the room for two pieces
 module _ (short : Bool) (have at a b : ℕ) (e : short ≡ ltb have (at + a)) where
@@ -215,7 +215,7 @@ module _ (last id l i : ℤ) (d code : ℕ) (e : d ≡ short_delta l i) where
     unfolding field_bytes
     header_long n w h f g = rw (← is_delta, eq-eqb d 0 h, f, g)
 
-pub ruleset header_cases = (delta_scaled, delta_coded, header_short, header_long, same_to, same_left, wide, wide_fits, to_z-of_z, sfits_of)
+pub ruleset header_cases = (delta_scaled, delta_coded, header_short, header_long, same_to, same_left, to_z-of_z, sfits_of)
 
 -- a list's header
 module _ (t : TType) (n c : ℕ) (e : c ≡ type_code t) where
@@ -337,7 +337,7 @@ module _ (last id l i : ℤ) (d code : ℕ) (e : d ≡ short_delta l i) (x : l �
   pub length_long : (n k : ℕ) (w : ℤ) → d ≡ 0 → n ≡ zigzag w → w ≡ id → k ≡ length (fewest n) → 1 + k ≡ length (field_bytes last id (code % 16))
   length_long n k w h f g q = omega (arith, q, ap length (header_long last id l i d code e x y n w h f g))
 
-pub ruleset field_len_cases = (length_short, length_long, more_fits, wide, wide_fits, to_z-of_z, sfits_of)
+pub ruleset field_len_cases = (length_short, length_long, more_fits, to_z-of_z, sfits_of)
 
 module _ (t : TType) (n : ℕ) where
   pub items_one : n < 15 → 1 ≡ length (items_bytes t n)

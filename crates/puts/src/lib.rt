@@ -11,6 +11,7 @@ ghost use Rattle.puts.specs.Bytes.{short_delta, field_bytes, items_bytes, pairs_
 
 use numbers::Wrote;
 use types::{FieldId, SeqNo, TMessageType, TType};
+use zigzag::Zigzag;
 
 pub mod wrong;
 
@@ -101,8 +102,8 @@ pub fn field_header(buf: &mut [u8], at: usize, last: FieldId, id: FieldId, code:
     let low = code % 16;
     let delta = short_delta(last, id);
     if delta == 0 {
-        let n = zigzag::i32_to_zigzag(id.0 as i32);
-        return byte_varint(buf, at, low, n);
+        let n = id.0.to_zigzag();
+        return byte_varint(buf, at, low, n as u32);
     }
     numbers::write_byte(buf, at, delta * 16 + low)
 }
@@ -150,7 +151,7 @@ pub fn field_len(last: FieldId, id: FieldId, code: u8) -> usize
 {
     let delta = short_delta(last, id);
     if delta == 0 {
-        return 1 + numbers::varint_len(zigzag::i32_to_zigzag(id.0 as i32) as u64);
+        return 1 + numbers::varint_len(id.0.to_zigzag() as u64);
     }
     1
 }
@@ -179,7 +180,7 @@ pub fn pairs_len(key: TType, value: TType, n: u32) -> usize
 pub fn message_head(sequence: SeqNo, name: &[u8]) -> usize
     ensures { result ≡ 2 + length (fewest (of_z w32 sequence.0)) + length (fewest (length name.now)) }
 {
-    let bits = zigzag::bits32(sequence.0);
+    let bits = sequence.0.cast_unsigned();
     2 + numbers::varint_len(bits as u64) + numbers::varint_len(name.len() as u64)
 }
 
@@ -187,7 +188,7 @@ pub fn message_head(sequence: SeqNo, name: &[u8]) -> usize
 pub fn message(buf: &mut [u8], at: usize, kind: TMessageType, sequence: SeqNo, name: &[u8]) -> Wrote
     ensures { (result ≡ wrote_at buf.old at (message_bytes kind sequence.0 name.now)) × (buf.new ≡ put_at buf.old at (message_bytes kind sequence.0 name.now)) }
 {
-    let bits = zigzag::bits32(sequence.0);
+    let bits = sequence.0.cast_unsigned();
     let second = types::message_type_to_u8(kind) * 32 + COMPACT_VERSION;
     envelope(buf, at, second, bits, name)
 }

@@ -27,6 +27,7 @@ pub fn number(row: &[u64], i: usize) -> u64
     0
 }
 
+#[tactic(auto, using(crate::proofs::Cases::numbers))]
 pub fn put(row: &mut [u64], i: usize, n: u64)
     ensures { row.new ≡ set row.old i n }
 {
@@ -45,21 +46,24 @@ pub fn place(row: &[u64]) -> usize
 pub fn id_of(n: u64) -> i16
     ensures { result ≡ last_in n }
 {
-    zigzag::signed16((n % 65536) as u16)
+    ((n % 65536) as u16).cast_signed()
 }
 
+#[tactic(auto, using(crate::proofs::Cases::ids))]
 pub fn id_no(id: i16) -> u64
     ensures { (result ≡ of_z w16 id) × (result < 65536) }
 {
-    zigzag::bits16(id) as u64
+    id.cast_unsigned() as u64
 }
 
+#[tactic(auto, using(crate::proofs::Cases::ids))]
 pub fn last(row: &[u64]) -> i16
     ensures { result ≡ last_in (get_or row.now 1 0) }
 {
     id_of(number(row, 1))
 }
 
+#[tactic(auto, using(crate::proofs::Cases::limiting))]
 pub fn limits(row: &[u64]) -> TConfiguration
     ensures { result ≡ limits_of row.now }
 {
@@ -147,6 +151,7 @@ pub fn cut_here(row: &[u64], len: usize) -> usize
 
 // The last two tests of a row: of the bytes that its message has, and of what waits. Nothing waits is asked first, so that the compiler
 // makes jumps of the row's tests and not one long sum of truths.
+#[tactic(auto, using(crate::proofs::Cases::waitings))]
 fn waits(used: u64, message: u64, turn: u64, top: u64) -> u8
     ensures { result ≡ cond (leb used message) (cond (ltb turn 65536) 0 (cond (ltb turn top) OUT_OF_TURN BAD_STATE)) BAD_STATE }
 {
@@ -166,6 +171,7 @@ fn waits(used: u64, message: u64, turn: u64, top: u64) -> u8
 }
 
 // What a call refuses before it looks at anything else: BAD STATE, then OUT OF TURN; 0 where neither is. `top` is above what number 1 may be.
+#[tactic(auto, using(crate::proofs::Cases::gates))]
 fn refusal(row: &[u64], len: usize, top: u64) -> u8
     ensures { result ≡ gate_of top len row.now }
 {
@@ -204,12 +210,14 @@ fn refusal(row: &[u64], len: usize, top: u64) -> u8
     types::BAD_STATE
 }
 
+#[tactic(auto, using(crate::proofs::Gate::passing))]
 pub fn gate(row: &[u64], len: usize) -> u8
     ensures { result ≡ I.gate len (reader_of row.now) }
 {
     refusal(row, len, READER_TOP)
 }
 
+#[tactic(auto, using(crate::proofs::Gate::passing))]
 pub fn writer_gate(row: &[u64], len: usize) -> u8
     ensures { result ≡ O.or_else (O.unsound len (writer_of row.now)) (O.turn (writer_of row.now).pending.0) }
 {
@@ -217,6 +225,7 @@ pub fn writer_gate(row: &[u64], len: usize) -> u8
 }
 
 // Behind a header, with its last id and what waits.
+#[tactic(auto, using(crate::proofs::Cases::heading))]
 pub fn head(row: &mut [u64], at: usize, id: i16, waits: u8)
     ensures { row.new ≡ set (set row.old 0 at) 1 (turn_of id waits) }
 {
@@ -225,6 +234,7 @@ pub fn head(row: &mut [u64], at: usize, id: i16, waits: u8)
 }
 
 // Behind a message's header, which began at `from`: the last id is 0.
+#[tactic(auto, using(crate::proofs::Cases::begun_put))]
 pub fn begun(row: &mut [u64], from: usize, at: usize)
     ensures { row.new ≡ set (set (set row.old 0 at) 1 0) 5 from }
 {
@@ -234,6 +244,7 @@ pub fn begun(row: &mut [u64], from: usize, at: usize)
 }
 
 // What was written, told: the row moves behind it, or stays where it was refused.
+#[tactic(auto, using(crate::proofs::Cases::writings))]
 pub fn wrote(row: &mut [u64], wrote: Wrote) -> u8
     ensures { (result ≡ wrote_number wrote) × (row.new ≡ wrote_row row.old wrote) }
 {
@@ -247,6 +258,7 @@ pub fn wrote(row: &mut [u64], wrote: Wrote) -> u8
 }
 
 // The same of a field's header, whose id is the last one from then on.
+#[tactic(auto, using(crate::proofs::Cases::writings))]
 pub fn headed(row: &mut [u64], id: i16, wrote: Wrote) -> u8
     ensures { (result ≡ wrote_number wrote) × (row.new ≡ headed_row row.old id wrote) }
 {
@@ -261,6 +273,7 @@ pub fn headed(row: &mut [u64], id: i16, wrote: Wrote) -> u8
 }
 
 // The same of a message's header, which began at `from`.
+#[tactic(auto, using(crate::proofs::Cases::writings))]
 pub fn wrote_anew(row: &mut [u64], from: usize, wrote: Wrote) -> u8
     ensures { (result ≡ wrote_number wrote) × (row.new ≡ begun_row row.old from wrote) }
 {
@@ -274,6 +287,7 @@ pub fn wrote_anew(row: &mut [u64], from: usize, wrote: Wrote) -> u8
     }
 }
 
+#[tactic(auto, using(crate::proofs::Cases::tests), unfolding(crate::specs::Row::awaited_of))]
 fn awaited_of(n: u64) -> Awaited
     ensures { result ≡ awaited_of n }
 {
@@ -303,6 +317,7 @@ fn no_limits() -> TConfiguration
     }
 }
 
+#[tactic(auto, using(crate::proofs::Cases::readers))]
 pub fn reader_of(row: &[u64]) -> TCompactInputProtocol
     ensures { result ≡ reader_of row.now }
 {
@@ -327,6 +342,7 @@ pub fn reader_of(row: &[u64]) -> TCompactInputProtocol
     }
 }
 
+#[tactic(auto, using(crate::proofs::Cases::refills))]
 fn refill(row: &mut [u64], at: usize, last: i16, depth: usize, waits: u64, begin: usize)
     requires { waits < 65537 }
     ensures { row.new ≡ refilled row.old at last depth waits begin }

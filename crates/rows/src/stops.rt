@@ -17,6 +17,7 @@ use types::{FieldId, SeqNo, TType};
 const AMPLE: usize = 16;
 
 // The bytes are counted in two parts, since a string's length and that of its varint could wrap.
+#[tactic(auto, using(crate::proofs::Sizes::overs))]
 pub fn over(row: &[u64], head: usize, body: usize) -> u8
     ensures { result ≡ size_wrong (writer_in row.now) (head + body) }
 {
@@ -30,6 +31,7 @@ pub fn over(row: &[u64], head: usize, body: usize) -> u8
     0
 }
 
+#[tactic(auto, using(crate::proofs::Sizes::sizes))]
 pub fn plain(row: &[u64], bytes: &[u8]) -> u8
     ensures { result ≡ size_wrong (writer_in row.now) (length bytes.now) }
 {
@@ -45,6 +47,7 @@ pub fn number(row: &[u64], n: u64) -> u8
     over(row, numbers::varint_len(n), 0)
 }
 
+#[tactic(auto, using(crate::proofs::Sizes::sizes))]
 pub fn field(row: &[u64], last: FieldId, id: FieldId, code: u8) -> u8
     ensures { result ≡ size_wrong (writer_in row.now) (length (field_bytes last.0 id.0 (code % 16))) }
 {
@@ -54,6 +57,7 @@ pub fn field(row: &[u64], last: FieldId, id: FieldId, code: u8) -> u8
     over(row, puts::field_len(last, id, code), 0)
 }
 
+#[tactic(auto, using(crate::proofs::Sizes::sizes))]
 fn items_size(row: &[u64], kind: TType, count: u32) -> u8
     ensures { result ≡ size_wrong (writer_in row.now) (length (items_bytes kind count)) }
 {
@@ -63,6 +67,7 @@ fn items_size(row: &[u64], kind: TType, count: u32) -> u8
     over(row, puts::items_len(kind, count), 0)
 }
 
+#[tactic(auto, using(crate::proofs::Sizes::sizes))]
 fn pairs_size(row: &[u64], key: TType, value: TType, count: u32) -> u8
     ensures { result ≡ size_wrong (writer_in row.now) (length (pairs_bytes key value count)) }
 {
@@ -72,6 +77,7 @@ fn pairs_size(row: &[u64], key: TType, value: TType, count: u32) -> u8
     over(row, puts::pairs_len(key, value, count), 0)
 }
 
+#[tactic(auto, using(crate::proofs::Sizes::counts))]
 pub fn items(row: &[u64], kind: TType, count: i32) -> u8
     ensures { result ≡ or_else (count_wrong (limits_of row.now) kind kind count) (size_wrong (writer_in row.now) (length (items_bytes kind (above count)))) }
 {
@@ -82,6 +88,7 @@ pub fn items(row: &[u64], kind: TType, count: i32) -> u8
     items_size(row, kind, wrong::size_of(count))
 }
 
+#[tactic(auto, using(crate::proofs::Sizes::counts))]
 pub fn pairs(row: &[u64], key: TType, value: TType, count: i32) -> u8
     ensures { result ≡ or_else (count_wrong (limits_of row.now) key value count) (size_wrong (writer_in row.now) (length (pairs_bytes key value (above count)))) }
 {
@@ -92,6 +99,7 @@ pub fn pairs(row: &[u64], key: TType, value: TType, count: i32) -> u8
     pairs_size(row, key, value, wrong::size_of(count))
 }
 
+#[tactic(auto, using(crate::proofs::Sizes::strings))]
 pub fn bytes(row: &[u64], blob: &[u8]) -> u8
     ensures { result ≡ or_else (length_wrong (limits_of row.now) blob.now) (size_wrong (writer_in row.now) (length (string_bytes blob.now))) }
 {
@@ -102,6 +110,7 @@ pub fn bytes(row: &[u64], blob: &[u8]) -> u8
     over(row, numbers::varint_len(blob.len() as u64), blob.len())
 }
 
+#[tactic(auto, using(crate::proofs::Sizes::strings))]
 pub fn string(row: &[u64], text: &[u8]) -> u8
     ensures { result ≡ or_else (text_wrong (limits_of row.now) text.now) (size_wrong (writer_in row.now) (length (string_bytes text.now))) }
 {
@@ -113,6 +122,7 @@ pub fn string(row: &[u64], text: &[u8]) -> u8
 }
 
 // A message is counted from its own first byte.
+#[tactic(auto, using(crate::proofs::Sizes::anews))]
 fn over_anew(row: &[u64], head: usize, body: usize) -> u8
     ensures { result ≡ size_wrong (O.begun_here (writer_in row.now)) (head + body) }
 {
@@ -126,6 +136,7 @@ fn over_anew(row: &[u64], head: usize, body: usize) -> u8
     0
 }
 
+#[tactic(auto, using(crate::proofs::Sizes::messages))]
 pub fn message(row: &[u64], sequence: SeqNo, name: &[u8]) -> u8
     ensures { result ≡ or_else (text_wrong (limits_of row.now) name.now) (size_wrong (O.begun_here (writer_in row.now)) (2 + length (fewest (of_z w32 sequence.0)) + length (fewest (length name.now)) + length name.now)) }
 {

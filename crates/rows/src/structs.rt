@@ -5,6 +5,7 @@ ghost use Rattle.rows.specs.Structs.{skip_by};
 use input::{DoneAnswer, ReadDone, TCompactInputProtocol};
 use types::TypeRead;
 
+#[tactic(auto, using(crate::proofs::Ids::skipping))]
 pub fn skip_by(state: TCompactInputProtocol, s: &[u8], kind: u8) -> ReadDone
     ensures { result ≡ skip_by s.now kind state }
 {
@@ -26,6 +27,7 @@ pub fn skip_by(state: TCompactInputProtocol, s: &[u8], kind: u8) -> ReadDone
     }
 }
 
+#[tactic(auto, using(crate::proofs::Ids::saving))]
 pub fn save(ids: &mut [i16], depth: usize, last: i16)
     ensures { ids.new ≡ set ids.old depth last }
 {
@@ -34,6 +36,7 @@ pub fn save(ids: &mut [i16], depth: usize, last: i16)
     }
 }
 
+#[tactic(auto, using(crate::proofs::Ids::saving))]
 pub fn saved(ids: &[i16], depth: usize) -> i16
     ensures { result ≡ get_or ids.now depth (pos 0) }
 {

@@ -4,6 +4,7 @@ ghost use Rattle.rows.specs.Reads.{ToldDone};
 use crate::row;
 use input::{DoneAnswer, ReadDone};
 
+#[tactic(auto, using(crate::proofs::Ids::done_told))]
 pub fn told_done(row: &mut [u64], read: ReadDone) -> u8
     ensures { ToldDone row.old row.new result read }
 {

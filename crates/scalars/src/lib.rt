@@ -2,12 +2,12 @@
 // beside the doubles.
 #![tactic(auto)]
 
-ghost use Rattle.std.specs.Prelude.{◌≡◌, cond};
+ghost use Rattle.std.specs.Prelude.{◌≡◌};
 ghost use Rattle.std.specs.Float.{binary64};
 ghost use Rattle.std.specs.Float.Ieee.{to_bits};
 ghost use Rattle.scalars.specs.Scalars.{scalar_of, bits_of};
 
-#[derive(Clone, Copy)]
+#[derive(Clone, Copy, Debug, PartialEq)]
 pub enum Scalar {
     Bool(bool),
     Int(i64),
@@ -16,6 +16,7 @@ pub enum Scalar {
 }
 
 // Any 64 bits: a double, or a NaN's pattern, kept whole.
+#[tactic(auto, using(crate::proofs::Patterns::pattern_cases))]
 pub fn of_bits(n: u64) -> Scalar
     ensures { result ≡ scalar_of n }
 {
@@ -32,50 +33,28 @@ pub fn to_bits(v: Scalar) -> u64
     ensures { result ≡ bits_of v }
 {
     match v {
-        Scalar::Bool(b) => bool_bits(b),
+        Scalar::Bool(b) => u64::from(b),
         Scalar::Int(_) => 0,
         Scalar::Double(x) => double_bits(x),
         Scalar::NotANumber(n) => n,
     }
 }
 
-fn bool_bits(b: bool) -> u64
-    ensures { result ≡ cond b 1 0 }
-{
-    if b { 1 } else { 0 }
-}
-
+#[tactic(auto, using(crate::proofs::Patterns::double_cases))]
 fn double_bits(x: f64) -> u64
     ensures { result ≡ to_bits binary64 x }
 {
-    if x != x {
-        return 0x7ff8_0000_0000_0000;
+    if x.is_nan() {
+        0x7ff8_0000_0000_0000
+    } else {
+        x.to_bits()
     }
-    f64::to_bits(x)
 }
 
 // Every pattern comes back, a NaN's too.
+#[tactic(auto, using(crate::proofs::Patterns::comes_back))]
 pub fn through(n: u64) -> u64
     ensures { result ≡ n }
 {
     to_bits(of_bits(n))
-}
-
-// A narrower signed number, the same in 64 bits.
-pub fn i8_to_i64(n: i8) -> i64
-    ensures { result ≡ n }
-{
-    n as i64
-}
-
-pub fn i16_to_i64(n: i16) -> i64
-    ensures { result ≡ n }
-{
-    n as i64
-}
-
-pub fn i32_to_i64(n: i32) -> i64
-    ensures { result ≡ n }
-{
-    n as i64
 }

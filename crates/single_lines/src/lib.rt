@@ -29,6 +29,7 @@ fn reader() -> TCompactInputProtocol
     })
 }
 
+#[tactic(auto, using(crate::proofs::Rows::counts_text))]
 fn put_counts(out: &mut [u8], to: usize, counts: Counts) -> usize
     ensures { (out.new, result) ≡ inked (counts_line counts) (out.old, to) }
 {

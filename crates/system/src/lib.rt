@@ -1,11 +1,14 @@
-// What the programs ask of the system: buffers, a buffer filled from a reader, the words of the command line, a file by its name, and what failed, said in the
-// system's words.
+// What the programs ask of the system: what a reader gives, up to a limit; the words of the command line; a file by its name; the message that a program is given;
+// text put into a lent buffer; and what failed, said in the system's words.
 #![tactic(auto)]
 
-ghost use Rattle.std.specs.Prelude.{◌≡◌, ◌≤◌, length, IfOk};
+ghost use Rattle.std.specs.Prelude.{◌≡◌, ◌≤◌, length, vec_len, IfOk, IfSome};
 ghost use Rattle.std.specs.Str.{IsUtf8};
+ghost use Rattle.std.specs.Fn.{FnOnceReturnsAtMut};
 ghost use Rattle.system.specs.Counts.{IsPrefixLen};
+ghost use Rattle.system.specs.Texts.{IsPutBy};
 
+use std::alloc::{AllocError, Global};
 use std::env::{Env, FillError};
 use std::fs::{File, Files};
 use std::io::{Cursor, Read, Write};
@@ -16,18 +19,20 @@ const EINVAL: i32 = 22;
 
 const ENAMETOOLONG: i32 = 36;
 
-// 4,096 zeros, which hold any path. A contract that gives no more than the length: a proof that sees the array would compute it.
-pub fn buffer() -> [u8; 4096]
-    ensures { 4096 ≡ length result }
-{
-    [0; 4096]
-}
+// How many bytes are asked of a reader at a time.
+const CHUNK: usize = 65_536;
 
-// 65,536 zeros.
-pub fn large_buffer() -> [u8; 65536]
-    ensures { 65536 ≡ length result }
+// The longest word of the command line that is taken: no path is longer.
+pub const LONGEST_WORD: usize = 4096;
+
+// The most that the programs read of a message. One byte more than a message may have shows that there are more.
+pub const MESSAGE_ROOM: usize = 65_537;
+
+// Zeros in place. A contract that gives no more than how many: a proof that sees them would compute them.
+pub fn buffer<const N: usize>() -> [u8; N]
+    ensures { N ≡ length result }
 {
-    [0; 65536]
+    [0; N]
 }
 
 // Reads until the buffer is full, the input ends or a read fails; how many bytes stand at the buffer's start then. On an empty buffer it makes no call.
@@ -42,6 +47,63 @@ pub fn read_full<R: Read>(reader: &mut R, buf: &mut [u8]) -> usize
         }
     }
     done
+}
+
+// So many zeros, as large as a stack may not be. Its contract, too, gives no more than how many.
+pub fn zeros(alloc: Global, n: usize) -> Result<Vec<u8>, AllocError>
+    ensures { IfOk result (λ v. vec_len v ≡ n) }
+{
+    vec![in alloc; 0; n]
+}
+
+// What a reader gives, up to so many bytes: all until the input ends or a read fails. (`read_to_end` would keep what came before a failed read too, but no clause says so.)
+pub fn read_up_to<R: Read>(
+    alloc: Global,
+    reader: &mut R,
+    most: usize,
+) -> Result<Vec<u8>, AllocError>
+    ensures { IfOk result (λ v. vec_len v ≤ most) }
+{
+    let mut bytes = Vec::new(alloc);
+    let mut chunk = buffer::<CHUNK>();
+    while bytes.len() < most {
+        let room = CHUNK.min(most - bytes.len());
+        let n = read_full(reader, &mut chunk[..room]);
+        bytes.extend_from_slice(&chunk[..n])?;
+        if n < room {
+            break;
+        }
+    }
+    Ok(bytes)
+}
+
+// The text that `put` puts at the start of a buffer of so many zeros, where it answers the text's end; no more than the buffer holds.
+pub fn text<F: FnOnce(&mut [u8]) -> usize>(
+    alloc: Global,
+    room: usize,
+    put: F,
+) -> Result<Vec<u8>, AllocError>
+    requires { F.IsAlwaysCallable put }
+    ensures room { IfOk result (λ v. vec_len v ≤ room) }
+    ensures text { IfOk result (λ v. IsPutBy (FnOnceReturnsAtMut F.FnOnce put) room v.items) }
+{
+    let mut out = zeros(alloc, room)?;
+    let end = put(&mut out);
+    out.truncate(end);
+    Ok(out)
+}
+
+// That text, written.
+pub fn print_text<F: FnOnce(&mut [u8]) -> usize>(
+    alloc: Global,
+    out: &impl Print,
+    room: usize,
+    put: F,
+) -> io::Result<()>
+    requires { F.IsAlwaysCallable put }
+{
+    let bytes = text(alloc, room, put)?;
+    out.write_all(&bytes)
 }
 
 // How many words the command line has, the program's name among them; no more than `most`.
@@ -69,6 +131,102 @@ pub fn argument(env: &impl Env, i: usize, buf: &mut [u8]) -> io::Result<usize>
     }
 }
 
+// Word i of the command line, whole.
+pub fn word(alloc: Global, env: &impl Env, i: usize) -> io::Result<Vec<u8>>
+    ensures { IfOk result (λ v. vec_len v ≤ 4096) }
+{
+    let mut bytes = buffer::<LONGEST_WORD>();
+    let n = argument(env, i, &mut bytes)?;
+    Ok(Vec::from_slice(alloc, &bytes[..n])?)
+}
+
+// Where a program's message stands: on standard input, or in the file of its only argument. (An Option in the Option of `find_source` would say neither.)
+#[derive(Drop)]
+pub enum Source {
+    Input,
+    File(Vec<u8>),
+}
+
+// A program: its name, its memory, the system that it works with, and where it says what fails.
+#[derive(Clone, Copy)]
+pub struct Program<'a, R, E> {
+    pub name: &'a str,
+    pub alloc: Global,
+    pub rt: &'a R,
+    pub err: &'a E,
+}
+
+impl<R: Env + Files + Print, E: Print> Program<'_, R, E> {
+    // What a program takes, in a line.
+    pub fn usage(&self) -> io::Result<()> {
+        let err = self.err;
+        let name = self.name;
+        println!(err; "{name}: FILE, or the message on standard input")
+    }
+
+    // The source that the command line names. None where it has more than one argument, or one that can't be told, which is said.
+    pub fn find_source(&self) -> io::Result<Option<Source>> {
+        match argument_count(self.rt, 3) {
+            0 | 1 => Ok(Some(Source::Input)),
+            2 => match word(self.alloc, self.rt, 1) {
+                Ok(path) => Ok(Some(Source::File(path))),
+                Err(e) => {
+                    self.fail_at("argument", &e)?;
+                    Ok(None)
+                }
+            },
+            _ => {
+                self.usage()?;
+                Ok(None)
+            }
+        }
+    }
+
+    // The message that stands in a source, as much of it as is read. None where its file can't be opened, which is said.
+    pub fn message(&self, input: &mut impl Read, source: &Source) -> io::Result<Option<Vec<u8>>>
+        ensures { IfOk result (λ m. IfSome m (λ v. vec_len v ≤ 65537)) }
+    {
+        match source {
+            Source::Input => Ok(Some(read_up_to(self.alloc, input, MESSAGE_ROOM)?)),
+            Source::File(path) => match open(self.rt, path) {
+                Ok(mut file) => Ok(Some(read_up_to(self.alloc, &mut file, MESSAGE_ROOM)?)),
+                Err(e) => {
+                    fail(self.err, path, &e)?;
+                    Ok(None)
+                }
+            },
+        }
+    }
+
+    // The message that the program is given. None where there is none, which is said.
+    pub fn given_message(&self, input: &mut impl Read) -> io::Result<Option<Vec<u8>>>
+        ensures { IfOk result (λ m. IfSome m (λ v. vec_len v ≤ 65537)) }
+    {
+        match self.find_source()? {
+            Some(source) => self.message(input, &source),
+            None => Ok(None),
+        }
+    }
+
+    // Writes to standard output; whether it was written. A failure is said.
+    pub fn put_out(&self, bytes: &[u8]) -> io::Result<bool> {
+        match self.rt.write_all(bytes) {
+            Ok(()) => Ok(true),
+            Err(e) => {
+                self.fail_at("standard output", &e)?;
+                Ok(false)
+            }
+        }
+    }
+
+    // What failed, behind the program's name.
+    pub fn fail_at(&self, place: &str, error: &io::Error) -> io::Result<()> {
+        let name = self.name;
+        let what = format!(in self.alloc; "{name}: {place}")?;
+        fail(self.err, what.as_bytes(), error)
+    }
+}
+
 // Opens a file for reading. A name has to be UTF-8.
 pub fn open<R: Files>(files: &R, path: &[u8]) -> io::Result<R::File>
     ensures { IfOk result (λ _. IsUtf8 path.now) }
@@ -84,10 +242,9 @@ pub fn fail(err: &impl Print, what: &[u8], error: &io::Error) -> io::Result<()> 
     let mut text = Cursor::new([0u8; 256]);
     write!(text, "{error}")?;
     let room = text.into_inner();
+    let words = words(&room);
     err.write_all(what)?;
-    err.write_all(b": ")?;
-    err.print(words(&room))?;
-    err.write_all(b"\n")
+    println!(err; ": {words}")
 }
 
 // The text before the zeros behind it, and before the system's number.

@@ -37,7 +37,6 @@ use Rattle.puts.specs.Bytes.{above, int_bytes, field_bytes, items_bytes, pairs_b
 use Rattle.puts.specs.Wrong.{or_else, length_wrong, text_wrong, field_wrong, count_wrong}
 use Rattle.puts.proofs.Pieces.{code_below, truth_below}
 use Rattle.puts.proofs.Checks.{both_none}
-use Rattle.puts.proofs.Deltas.{wide, wide_fits}
 use Rattle.output.specs.State.{State, unsound, turn, in_turn, begun_here, moved_to, headed, awaiting, cut_of}
 use Rattle.output.specs.Calls.{Call, call, refused_by, written, settled, size_wrong, message_call, field_call, bool_call, truth_call, items_call, pairs_call}
 use Rattle.output.specs.declared.AwaitedField.{AwaitedField}
@@ -212,7 +211,7 @@ int_sized n y z e f = ap length (int_is n y z e f)
 
 pub ruleset plain_cases = (barred, full, went, double_size)
 
-pub ruleset int_cases = (barred, full, went, int_is, int_sized, byte_is, wide, wide_fits, to_z-of_z, sfits_of)
+pub ruleset int_cases = (barred, full, went, int_is, int_sized, byte_is, to_z-of_z, sfits_of)
 
 pub ruleset bytes_cases = (barred, denied, went_as, bytes_stop, string_stop)
 

@@ -5,6 +5,7 @@ ghost use Rattle.zigzag.specs.Zigzag.{zigzag, unzigzag};
 ghost use Rattle.tagrumzil.specs.Bare.{placed32, placed64, placed16, placed_bits, Found32, Found64, Found16, FoundBits, PutNumber};
 
 use numbers::{Bits64, Int16, Varint32, Varint64, Wrote};
+use zigzag::Zigzag;
 
 // The number of this library, which a caller holds against the one it was written for: it changes with every change of a row's layout or of what a call means.
 pub const VERSION: u32 = 1;
@@ -108,23 +109,25 @@ pub fn tagrumzil_varint_len(n: u64) -> usize
 pub fn tagrumzil_zigzag_to_i32(n: u32) -> i32
     ensures { result ≡ unzigzag n }
 {
-    zigzag::zigzag_to_i32(n)
+    i32::from_zigzag(n)
 }
 
 pub fn tagrumzil_zigzag_to_i64(n: u64) -> i64
     ensures { result ≡ unzigzag n }
 {
-    zigzag::zigzag_to_i64(n)
+    i64::from_zigzag(n)
 }
 
+#[tactic(auto, using(crate::proofs::Bared::zigs))]
 pub fn tagrumzil_i32_to_zigzag(n: i32) -> u32
     ensures { result ≡ zigzag n }
 {
-    zigzag::i32_to_zigzag(n)
+    n.to_zigzag()
 }
 
+#[tactic(auto, using(crate::proofs::Bared::zigs))]
 pub fn tagrumzil_i64_to_zigzag(n: i64) -> u64
     ensures { result ≡ zigzag n }
 {
-    zigzag::i64_to_zigzag(n)
+    n.to_zigzag()
 }

@@ -8,6 +8,7 @@ use days::{Checked, Part};
 use numbers::Wrote;
 
 // How many messages the file has.
+#[tactic(auto, using(crate::proofs::Daily::daily))]
 pub fn tagrumzil_check_day(file: &[u8], count: &mut usize) -> u8
     ensures { FoundCount count.old count.new result (check_of file.now) }
 {
@@ -21,6 +22,7 @@ pub fn tagrumzil_check_day(file: &[u8], count: &mut usize) -> u8
 }
 
 // Where message k starts and ends in the file.
+#[tactic(auto, using(crate::proofs::Daily::daily))]
 pub fn tagrumzil_day_message(file: &[u8], k: usize, start: &mut usize, end: &mut usize) -> u8
     ensures { FoundPart start.old start.new end.old end.new result (message_of file.now k) }
 {

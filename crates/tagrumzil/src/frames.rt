@@ -11,6 +11,7 @@ use types::TConfiguration;
 const NUMBERS: usize = 268;
 
 // A frame of an announced length, of which nothing has come.
+#[tactic(auto, using(crate::proofs::Framed::announcing))]
 pub fn tagrumzil_frame_announce(
     row: &mut [u64],
     length: usize,
@@ -40,6 +41,7 @@ pub fn tagrumzil_frame_announce(
 }
 
 // A burst: its bytes are taken, up to the frame's end. 0 with the bytes used where the frame has ended, 255 where it waits for more.
+#[tactic(auto, using(crate::proofs::Framed::taking))]
 pub fn tagrumzil_frame_take(row: &mut [u64], burst: &[u8], used: &mut usize) -> u8
     ensures { TookFrame row.old row.new burst.now used.old used.new result }
 {
@@ -58,6 +60,7 @@ pub fn tagrumzil_frame_take(row: &mut [u64], burst: &[u8], used: &mut usize) -> 
 }
 
 // No more bytes come.
+#[tactic(auto, using(crate::proofs::Framed::closing))]
 pub fn tagrumzil_frame_close(row: &mut [u64], used: &mut usize) -> u8
     ensures { ToldFrame row.old row.new used.old used.new result (close_of (frame_of row.old)) }
 {

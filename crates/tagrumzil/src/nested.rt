@@ -10,6 +10,7 @@ use rows::{row, structs, told};
 const IDS: usize = 64;
 
 // Over one value of the type.
+#[tactic(auto, using(crate::proofs::Nesting::skip_through))]
 pub fn tagrumzil_skip(s: &[u8], row: &mut [u64], kind: u8) -> u8
     ensures { ToldDone row.old row.new result (skip_by s.now kind (reader_of row.old)) }
 {

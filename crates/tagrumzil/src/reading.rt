@@ -36,6 +36,7 @@ fn short_row(s: &[u8], at: usize, last: i16) -> u32
     first
 }
 
+#[tactic(auto, using(crate::proofs::Through::finding))]
 fn field_at(s: &[u8], row: &[u64]) -> FieldHead
     ensures { result ≡ field_at s.now (last_in (get_or row.now 1 0)) (get_or row.now 0 0) }
 {

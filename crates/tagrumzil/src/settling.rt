@@ -10,6 +10,7 @@ use rows::{row, told};
 
 // How many of the doubles in the struct an f32 holds, how many it does not, and how many are not a number. The reader moves behind the struct; where it is refused the counts
 // stay.
+#[tactic(auto, using(crate::proofs::Singles::told_singles))]
 pub fn tagrumzil_f32_counts(
     s: &[u8],
     row: &mut [u64],

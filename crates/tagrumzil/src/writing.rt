@@ -14,6 +14,7 @@ use output::Uuid;
 use puts::wrong;
 use rows::{row, stops, structs};
 use types::{FieldId, MessageTypeRead, SeqNo, TType, TypeRead};
+use zigzag::Zigzag;
 
 const IDS: usize = 64;
 
@@ -181,7 +182,7 @@ pub fn tagrumzil_write_i8(buf: &mut [u8], row: &mut [u64], n: i8) -> u8
     if stop != 0 {
         return stop;
     }
-    let wrote = numbers::write_byte(buf, row::place(row), zigzag::bits8(n));
+    let wrote = numbers::write_byte(buf, row::place(row), n.cast_unsigned());
     row::wrote(row, wrote)
 }
 
@@ -192,12 +193,12 @@ pub fn tagrumzil_write_i16(buf: &mut [u8], row: &mut [u64], n: i16) -> u8
     if why != 0 {
         return why;
     }
-    let z = zigzag::i32_to_zigzag(n as i32);
+    let z = n.to_zigzag();
     let stop = stops::number(row, z as u64);
     if stop != 0 {
         return stop;
     }
-    let wrote = numbers::write_varint32(buf, row::place(row), z);
+    let wrote = numbers::write_varint32(buf, row::place(row), z as u32);
     row::wrote(row, wrote)
 }
 
@@ -208,7 +209,7 @@ pub fn tagrumzil_write_i32(buf: &mut [u8], row: &mut [u64], n: i32) -> u8
     if why != 0 {
         return why;
     }
-    let z = zigzag::i32_to_zigzag(n);
+    let z = n.to_zigzag();
     let stop = stops::number(row, z as u64);
     if stop != 0 {
         return stop;
@@ -224,7 +225,7 @@ pub fn tagrumzil_write_i64(buf: &mut [u8], row: &mut [u64], n: i64) -> u8
     if why != 0 {
         return why;
     }
-    let z = zigzag::i64_to_zigzag(n);
+    let z = n.to_zigzag();
     let stop = stops::number(row, z);
     if stop != 0 {
         return stop;
@@ -316,12 +317,14 @@ fn items_begin(buf: &mut [u8], row: &mut [u64], kind: u8, count: i32) -> u8
     }
 }
 
+#[tactic(auto, using(crate::proofs::Making::items_by_lem))]
 pub fn tagrumzil_write_list_begin(buf: &mut [u8], row: &mut [u64], kind: u8, count: i32) -> u8
     ensures { Made row.old row.new buf.old buf.new result (writer_of row.old) (items_by (writer_of row.old) kind count) }
 {
     items_begin(buf, row, kind, count)
 }
 
+#[tactic(auto, using(crate::proofs::Making::items_by_lem))]
 pub fn tagrumzil_write_set_begin(buf: &mut [u8], row: &mut [u64], kind: u8, count: i32) -> u8
     ensures { Made row.old row.new buf.old buf.new result (writer_of row.old) (items_by (writer_of row.old) kind count) }
 {

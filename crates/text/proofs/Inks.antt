@@ -5,15 +5,14 @@ use mathlib.Core.List.{List, [], ◌∷◌, ◌++◌}
 use Prim.Native.Nat.{ℕ, zero, suc, ◌+◌, ◌-◌, ◌*◌, ◌/◌, ◌%◌, ◌^◌, ◌≤◌, ◌<◌}
 use native.Mathlib.Numerals.{add-one}
 use native.Mathlib.Omega.{arith}
-use borrow.Author.Rules.{sfits_of}
 use borrow.Author.Tests.{lt-ltb, le-ltb}
 use lib.Dec.{ltb}
 use lib.IntN.{ℤ, pos, negsuc}
+use Rattle.std.proofs.Common.{◌≤ℤ◌, ◌<ℤ◌, unsigned_abs}
+use Rattle.std.proofs.lemmas.Int.{ints}
 use lib.ListN.{length, drop, get_or, set, length-set, drop_of_length-le}
 use lib.Seq.{drop-cons}
-use mir.Facts.{to_z-of_z}
 use Rattle.types.specs.declared.TType.{TType}
-use Rattle.zigzag.specs.Zigzag.{zigzag}
 use Rattle.text.specs.Pen.{Pen, dot, inked}
 use Rattle.text.specs.Words.{digit, digits, decimal, signed, hex_digit, hex, hexes, type_name, truth_name}
 
@@ -26,8 +25,6 @@ module _ (out : List ℕ) (to b : ℕ) where
   pub dot_off : length out ≤ to → (out, to) ≡ dot b (out, to)
   unfolding dot
   dot_off h = rw (le-ltb to (length out) h)
-
-pub ruleset byte_cases = (dot_in, dot_off)
 
 -- pieces one behind the other
 pub inked_append : (bs cs : List ℕ) (p : Pen) → inked (bs ++ cs) p ≡ inked cs (inked bs p)
@@ -77,8 +74,6 @@ module _ (word : List ℕ) (out : List ℕ) (p i : ℕ) where
       ∙ ap (λ (l : List ℕ). inked l (out, p)) (sym (drop-cons word i 0 h))
       ∙ e)
 
-pub ruleset word_cases = (word_done, word_turn, same_length)
-
 -- put_decimal: what has few digits is written alike, however many there may be
 tens : ℕ → ℕ
 tens zero = 10
@@ -113,30 +108,19 @@ module _ (out : List ℕ) (to n : ℕ) (p : Pen) where
       inked_two (decimal (n / 10)) ((48 + n % 10) ∷ []) (out, to) q p g (e ∙ sym (inked_one (48 + n % 10) q))
       ∙ ap (λ (l : List ℕ). inked l (out, to)) (sym (decimal_more n f h))
 
-pub ruleset decimal_cases = (decimal_last, decimal_on)
-
--- put_int: the zigzag number's lowest bit is the sign (z reaches that call through its bits, as y)
-module _ (out : List ℕ) (to zig : ℕ) (p : Pen) where
-  up : (z : ℤ) → zig ≡ zigzag z → zig % 2 ≡ 0 → p ≡ inked (decimal (zig / 2)) (out, to) → p ≡ inked (signed z) (out, to)
+-- put_int
+module _ (out : List ℕ) (to m : ℕ) (p : Pen) where
+  pub int_up : (z : ℤ) → pos 0 ≤ℤ z → m ≡ unsigned_abs z → p ≡ inked (decimal m) (out, to) → p ≡ inked (signed z) (out, to)
   unfolding signed
-  up (pos n) g h e = let k : zig / 2 ≡ n = omega arith in e ∙ rw k
-  up (negsuc n) g h e = absurd (omega arith)
+  int_up (pos n) h g e = e ∙ rw g
+  int_up (negsuc n) h g e = absurd (omega (arith, ints))
 
-  down : (z : ℤ) (q : Pen) → zig ≡ zigzag z → (zig % 2 ≡ 0 → ⊥) → q ≡ dot 45 (out, to) → p ≡ inked (decimal (zig / 2 + 1)) q → p ≡ inked (signed z) (out, to)
+  pub int_down : (z : ℤ) (q : Pen) → z <ℤ pos 0 → q ≡ dot 45 (out, to) → m ≡ unsigned_abs z → p ≡ inked (decimal m) q → p ≡ inked (signed z) (out, to)
   unfolding signed
-  down (pos n) q g h f e = absurd (h (omega arith))
-  down (negsuc n) q g h f e =
-      let k : zig / 2 ≡ n = omega arith in
-      inked_two (45 ∷ []) (decimal (zig / 2 + 1)) (out, to) q p (f ∙ sym (inked_one 45 (out, to))) e ∙ rw k
-
-  module _ (z y : ℤ) (g : zig ≡ zigzag y) (s : y ≡ z) where
-    pub int_up : zig % 2 ≡ 0 → p ≡ inked (decimal (zig / 2)) (out, to) → p ≡ inked (signed z) (out, to)
-    int_up h e = up z (g ∙ ap zigzag s) h e
-
-    pub int_down : (q : Pen) → (zig % 2 ≡ 0 → ⊥) → q ≡ dot 45 (out, to) → p ≡ inked (decimal (zig / 2 + 1)) q → p ≡ inked (signed z) (out, to)
-    int_down q h f e = down z q (g ∙ ap zigzag s) h f e
-
-pub ruleset int_cases = (int_up, int_down, to_z-of_z, sfits_of)
+  int_down (pos n) q h f g e = absurd (omega (arith, ints))
+  int_down (negsuc n) q h f g e =
+      let k : m ≡ n + 1 = g ∙ omega arith in
+      inked_two (45 ∷ []) (decimal m) (out, to) q p (f ∙ sym (inked_one 45 (out, to))) e ∙ rw k
 
 -- hex_digit
 module _ (d : ℕ) where
@@ -145,8 +129,6 @@ module _ (d : ℕ) where
 
   pub digit_high : 10 ≤ d → 87 + d ≡ hex_digit d
   digit_high h = rw (le-ltb d 10 h)
-
-pub ruleset digit_cases = (digit_low, digit_high)
 
 -- put_hex
 module _ (out : List ℕ) (to n count : ℕ) where
@@ -160,8 +142,6 @@ module _ (out : List ℕ) (to n count : ℕ) where
       let k : count ≡ suc (count - 1) = omega arith in
       inked_two (hex (count - 1) (n / 16)) (hex_digit (n % 16) ∷ []) (out, to) q p f (e ∙ ap (λ (c : ℕ). dot c q) g ∙ sym (inked_one (hex_digit (n % 16)) q))
       ∙ ap (λ (m : ℕ). inked (hex m n) (out, to)) (sym k)
-
-pub ruleset hex_cases = (hex_none, hex_on)
 
 -- put_bytes: those from i on are left
 module _ (bytes : List ℕ) (out : List ℕ) (p i : ℕ) where
@@ -178,8 +158,6 @@ module _ (bytes : List ℕ) (out : List ℕ) (p i : ℕ) where
       ∙ ap (λ (l : List ℕ). inked (hexes l) (out, p)) (sym (drop-cons bytes i 0 h))
       ∙ e)
 
-pub ruleset bytes_cases = (bytes_done, bytes_turn, same_length)
-
 -- put_type, put_truth: a word of its own for each
 module _ (out : List ℕ) (to : ℕ) (p : Pen) (word : List ℕ) (e : p ≡ inked word (out, to)) where
   pub named : (kind t : TType) → kind ≡ t → word ≡ type_name t → p ≡ inked (type_name kind) (out, to)
@@ -187,3 +165,6 @@ module _ (out : List ℕ) (to : ℕ) (p : Pen) (word : List ℕ) (e : p ≡ inke
 
   pub truth_named : (b c : Bool) → b ≡ c → word ≡ truth_name c → p ≡ inked (truth_name b) (out, to)
   truth_named b c k w = e ∙ rw (w, k)
+
+-- what the code knows at each of its returns
+pub ruleset cases = (dot_in, dot_off, word_done, word_turn, same_length, decimal_last, decimal_on, int_up, int_down, digit_low, digit_high, hex_none, hex_on, bytes_done, bytes_turn, named, truth_named)

@@ -1,6 +1,6 @@
 // Text into a lent buffer at a place: bytes, words, decimal and hex, names of types. Each call writes as much as fits and answers the place behind it,
 // as the Rust's `Write` for `&mut [u8]` does, so that none of them asks for room; that there is room is a law of the caller's text.
-#![tactic(auto)]
+#![tactic(auto, using(crate::proofs::Inks::cases), unfolding(crate::specs::Words::type_name, crate::specs::Words::truth_name))]
 
 ghost use Rattle.std.specs.Prelude.{◌≡◌, ◌<◌};
 ghost use Rattle.text.specs.Pen.{dot, inked};
@@ -24,16 +24,13 @@ pub fn put_word(out: &mut [u8], to: usize, word: &[u8]) -> usize
     ensures { (out.new, result) ≡ inked word.now (out.old, to) }
 {
     let mut p = to;
-    let mut i: usize = 0;
-    while i < word.len() {
-        p = put_byte(out, p, word[i]);
-        i = i + 1;
+    for b in word {
+        p = put_byte(out, p, *b);
     }
     p
 }
 
 // A number in decimal: the digits above the last, and then the last.
-#[tactic(auto, using(crate::proofs::Inks::decimal_cases))]
 pub fn put_decimal(out: &mut [u8], to: usize, n: u64) -> usize
     ensures { (out.new, result) ≡ inked (decimal n) (out.old, to) }
 {
@@ -44,16 +41,15 @@ pub fn put_decimal(out: &mut [u8], to: usize, n: u64) -> usize
     put_byte(out, p, (48 + n % 10) as u8)
 }
 
-// A signed number. Its zigzag number has the sign in the lowest bit, and the rest above it.
+// A signed number: its sign where it is below zero, and its size.
 pub fn put_int(out: &mut [u8], to: usize, n: i64) -> usize
     ensures { (out.new, result) ≡ inked (signed n) (out.old, to) }
 {
-    let zigzag = zigzag::i64_to_zigzag(n);
-    if zigzag % 2 == 0 {
-        return put_decimal(out, to, zigzag / 2);
+    if n < 0 {
+        let p = put_byte(out, to, b'-');
+        return put_decimal(out, p, n.unsigned_abs());
     }
-    let p = put_byte(out, to, b'-');
-    put_decimal(out, p, zigzag / 2 + 1)
+    put_decimal(out, to, n.unsigned_abs())
 }
 
 fn hex_digit(d: u64) -> u8
@@ -67,7 +63,6 @@ fn hex_digit(d: u64) -> u8
 }
 
 // So many hex digits of a number, the highest first.
-#[tactic(auto, using(crate::proofs::Inks::hex_cases))]
 pub fn put_hex(out: &mut [u8], to: usize, n: u64, count: usize) -> usize
     ensures { (out.new, result) ≡ inked (hex count n) (out.old, to) }
 {
@@ -78,21 +73,13 @@ pub fn put_hex(out: &mut [u8], to: usize, n: u64, count: usize) -> usize
     put_byte(out, p, hex_digit(n % 16))
 }
 
-fn wide(b: u8) -> u64
-    ensures { result ≡ b }
-{
-    b as u64
-}
-
 // Bytes, two hex digits for each.
 pub fn put_bytes(out: &mut [u8], to: usize, bytes: &[u8]) -> usize
     ensures { (out.new, result) ≡ inked (hexes bytes.now) (out.old, to) }
 {
     let mut p = to;
-    let mut i: usize = 0;
-    while i < bytes.len() {
-        p = put_hex(out, p, wide(bytes[i]), 2);
-        i = i + 1;
+    for b in bytes {
+        p = put_hex(out, p, u64::from(*b), 2);
     }
     p
 }

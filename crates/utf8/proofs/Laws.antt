@@ -1,16 +1,15 @@
 -- The steps of the definitions: a row of the table of encodings, a first byte, a byte behind it, and a character at the start of some bytes.
 -- Assumes nothing.
-use mathlib.Core.Path.{◌≡◌, refl, sym, subst, ◌∙◌}
+use mathlib.Core.Path.{◌≡◌, refl}
 use mathlib.Core.List.{List, [], ◌∷◌}
-use mathlib.Core.Bool.{Bool, true, false, cond}
+use mathlib.Core.Bool.{true, false}
 use Prim.Native.Nat.{ℕ, zero, suc, ◌+◌, ◌*◌, ◌/◌, ◌%◌, ◌≤◌, ◌<◌}
 use native.Mathlib.Omega.{arith}
 use native.Mathlib.Decide.{dec_lt}
 use borrow.Author.Tests.{lt-ltb, le-ltb, le-leb, lt-leb, eq-eqb, ne_eqb}
-use lib.Dec.{T, eqb}
-use lib.ListN.{length, drop}
+use lib.ListN.{drop}
 use lib.Seq.{drop-nil}
-use Rattle.utf8.specs.Utf8.{scalar, tail_of, encode, Char, char, none, judged, tails, decode, past, utf8}
+use Rattle.utf8.specs.Utf8.{scalar, tail_of, encode, char, judged, tails, decode, past, utf8}
 
 -- by whether a number is below another
 pub by_less : {X : Type 0} (a b : ℕ) → (a < b → X) → (b ≤ a → X) → X
@@ -19,9 +18,6 @@ by_less {X} a b f g = go (dec_lt a b)
     go : Dec (a < b) → X
     go (yes h) = f h
     go (no h) = g (omega arith)
-
-pub true_false : true ≡ false → ⊥
-true_false e = subst T e tt
 
 -- the table's rows
 module _ (n : ℕ) where
@@ -48,16 +44,12 @@ module _ (n : ℕ) where
   scalar_is s h =
       by_less n 0xD800 (λ l. rw (lt-ltb n 0xD800 l)) (λ l. rw (le-ltb n 0xD800 l, le-leb 0xE000 n (s l), le-leb n 0x10FFFF h))
 
-  pub surrogate : 0xD800 ≤ n → n < 0xE000 → scalar n ≡ false
-  unfolding scalar
-  surrogate l h = rw (le-ltb n 0xD800 l, lt-leb 0xE000 n h)
-
   pub beyond : 0x10FFFF < n → scalar n ≡ false
   unfolding scalar
   beyond h = rw (le-ltb n 0xD800 (omega arith), le-leb 0xE000 n (omega arith), lt-leb n 0x10FFFF h)
 
   pub scalar_top : scalar n ≡ true → n ≤ 0x10FFFF
-  scalar_top s = by_less 0x10FFFF n (λ h. absurd (true_false (sym s ∙ beyond h))) (λ h. h)
+  scalar_top s = by_less 0x10FFFF n (λ h. cc (s, beyond h)) (λ h. h)
 
 -- what becomes of a number that was read
 module _ (more least n : ℕ) where
@@ -65,34 +57,11 @@ module _ (more least n : ℕ) where
   unfolding judged
   taken l s = rw (le-leb least n l, s)
 
-  pub longer : n < least → judged more least n ≡ none
-  unfolding judged
-  longer l = rw (lt-leb least n l)
-
-  pub no_scalar : least ≤ n → scalar n ≡ false → judged more least n ≡ none
-  unfolding judged
-  no_scalar l s = rw (le-leb least n l, s)
-
 -- the bytes behind the first
 module _ (more least k n : ℕ) where
   pub tail_in : (b : ℕ) (bs : List ℕ) → b / 64 ≡ 2 → tails more least (suc k) n (b ∷ bs) ≡ tails more least k (n * 64 + b % 64) bs
   unfolding tails
   tail_in b bs h = rw (eq-eqb (b / 64) 2 h)
-
-  pub tail_off : (b : ℕ) (bs : List ℕ) → (b / 64 ≡ 2 → ⊥) → tails more least (suc k) n (b ∷ bs) ≡ none
-  unfolding tails
-  tail_off b bs h = rw (ne_eqb (b / 64) 2 h)
-
-same_none : (t : Bool) (x : Char) → x ≡ none → cond t x none ≡ none
-same_none true x e = e
-same_none false x e = refl
-
-pub tail_short : (more least k n : ℕ) (bs : List ℕ) → length bs < k → tails more least k n bs ≡ none
-unfolding tails
-tail_short more least zero n bs h = absurd (omega arith)
-tail_short more least (suc k) n [] h = refl
-tail_short more least (suc k) n (b ∷ bs) h =
-    same_none (eqb (b / 64) 2) (tails more least k (n * 64 + b % 64) bs) (tail_short more least k (n * 64 + b % 64) bs (omega arith))
 
 -- the first byte
 module _ (b : ℕ) (bs : List ℕ) where
@@ -113,10 +82,6 @@ module _ (b : ℕ) (bs : List ℕ) where
   lead_four h =
       rw
       (ne_eqb (b / 128) 0 (λ e. omega arith), ne_eqb (b / 32) 6 (λ e. omega arith), ne_eqb (b / 16) 14 (λ e. omega arith), eq-eqb (b / 8) 30 h)
-
-  pub lead_none : 0x80 ≤ b → (b / 32 ≡ 6 → ⊥) → (b / 16 ≡ 14 → ⊥) → (b / 8 ≡ 30 → ⊥) → decode (b ∷ bs) ≡ none
-  unfolding decode
-  lead_none h u v w = rw (ne_eqb (b / 128) 0 (λ e. omega arith), ne_eqb (b / 32) 6 u, ne_eqb (b / 16) 14 v, ne_eqb (b / 8) 30 w)
 
 -- a character of two, three and four bytes, each of its pattern
 pub read_two : (b x n : ℕ) (bs : List ℕ) → b / 32 ≡ 6 → x / 64 ≡ 2 → b % 32 * 64 + x % 64 ≡ n → decode (b ∷ x ∷ bs) ≡ judged 1 0x80 n
@@ -144,7 +109,3 @@ module _ (b : ℕ) (bs : List ℕ) where
   pub utf8_char : (n m : ℕ) → decode (b ∷ bs) ≡ char n m → utf8 (b ∷ bs) ≡ utf8 (drop m bs)
   unfolding utf8 past
   utf8_char n m e = rw e (past_drop bs m)
-
-  pub utf8_none : decode (b ∷ bs) ≡ none → utf8 (b ∷ bs) ≡ false
-  unfolding utf8 past
-  utf8_none e = rw e

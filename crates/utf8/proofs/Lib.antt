@@ -1,5 +1,4 @@
 pub mod Laws
-pub mod Cases
 pub mod Rows
-pub mod Steps
+pub mod Library
 pub mod Samples

@@ -9,12 +9,10 @@ use native.Mathlib.Omega.{arith}
 use borrow.Author.Tests.{leb-true, eqb-true}
 use lib.Dec.{leb, eqb}
 use lib.ListN.{length, drop, get_or}
+use Rattle.std.proofs.lemmas.List.{append_cancel_left}
 use lib.Seq.{drop-nil, drop_at}
 use Rattle.utf8.specs.Utf8.{scalar, tail_of, encode, Scalars, encodes, Row, Char, char, none, judged, tails, decode, onward, past, utf8}
-use Rattle.utf8.proofs.Laws.{by_less, encode_one, encode_two, encode_three, encode_four, scalar_is, scalar_top, true_false, taken, lead_one, read_two, read_three, read_four, utf8_char}
-
-zero_one : {X : Type 0} → ◌≡◌ {A = ℕ} 0 1 → X
-zero_one e = absurd (omega arith)
+use Rattle.utf8.proofs.Laws.{by_less, encode_one, encode_two, encode_three, encode_four, scalar_is, scalar_top, taken, lead_one, read_two, read_three, read_four, utf8_char}
 
 -- the 6 bits of a byte behind the first, and the bits of a number put together again, 6 at a time
 six : (n : ℕ) → (0x80 + n % 64) % 64 ≡ n % 64
@@ -86,9 +84,9 @@ by_cond : (P : Char → Type 0) (t : Bool) (x y : Char) → (t ≡ true → P x)
 by_cond P true x y f g = f refl
 by_cond P false x y f g = g refl
 
-and_both : (s t : Bool) → (s && t) ≡ true → (s ≡ true) × (t ≡ true)
+pub and_both : (s t : Bool) → (s && t) ≡ true → (s ≡ true) × (t ≡ true)
 and_both true t e = (refl, e)
-and_both false t e = absurd (true_false (sym e))
+and_both false t e = cc
 
 by_judged : (P : Char → Type 0) (more least n : ℕ) → (least ≤ n → scalar n ≡ true → P (char n more)) → P none → P (judged more least n)
 unfolding judged
@@ -215,7 +213,7 @@ longer_row n bs cs s e r =
     record { points = n ∷ r.points; scalars = (s, r.scalars); spelt = e ∙ ap (λ (l : List ℕ). encode n ++ l) r.spelt }
 
 first_row : (b : ℕ) (bs : List ℕ) → ((k : ℕ) → past bs k ≡ true → Row (drop k bs)) → (x : Char) → decode (b ∷ bs) ≡ x → onward (past bs) x ≡ true → Row (b ∷ bs)
-first_row b bs rest none e p = absurd (true_false (sym p))
+first_row b bs rest none e p = cc
 first_row b bs rest (char n m) e p =
     let t = spelt b bs n m e in
     longer_row n (b ∷ bs) (drop m bs) t.point t.same (rest m p)
@@ -253,14 +251,11 @@ encode_unique n k a b s t e =
     let h : decode (encode n ++ a) ≡ decode (encode k ++ b) = ap decode e in
     cc
 
-append_same : (p a b : List ℕ) → p ++ a ≡ p ++ b → a ≡ b
-append_same p a b e = sym (drop_at p a (length p) refl) ∙ ap (drop (length p)) e ∙ drop_at p b (length p) refl
-
 no_bytes : (n : ℕ) (a : List ℕ) → scalar n ≡ true → encode n ++ a ≡ [] → ⊥
 no_bytes n a s e =
     let d = decoded n a s in
     let f : ◌≡◌ {A = List ℕ} (d.first ∷ (d.behind ++ a)) [] = rw d.is at e in
-    zero_one (cc)
+    cc
 
 -- bytes are a row of one list of character numbers only
 pub row_unique : (ns ks : List ℕ) → Scalars ns → Scalars ks → encodes ns ≡ encodes ks → ns ≡ ks
@@ -271,7 +266,7 @@ row_unique (n ∷ ns) [] s t e = absurd (no_bytes n (encodes ns) s.0 e)
 row_unique (n ∷ ns) (k ∷ ks) s t e =
     let h : n ≡ k = encode_unique n k (encodes ns) (encodes ks) s.0 t.0 e in
     let f : encode n ++ encodes ns ≡ encode n ++ encodes ks = rw (← h) at e in
-    ap₂ (λ (x : ℕ) (l : List ℕ). x ∷ l) h (row_unique ns ks s.1 t.1 (append_same (encode n) (encodes ns) (encodes ks) f))
+    ap₂ (λ (x : ℕ) (l : List ℕ). x ∷ l) h (row_unique ns ks s.1 t.1 (append_cancel_left (encode n) (encodes ns) (encodes ks) f))
 
 -- bytes below 128 pass
 pub ascii_first : (b : ℕ) (bs : List ℕ) → b < 128 → utf8 (b ∷ bs) ≡ utf8 bs

@@ -4,67 +4,47 @@
 #![tactic(auto)]
 
 mod call_cases;
+mod line;
 mod number_cases;
 mod say;
 mod utf8_cases;
-mod words;
 mod writer;
 
+use line::Line;
+use std::alloc::Global;
 use std::io;
 
-// The groups, by their names' bytes. Another crate's cases are one more group.
-const READ: u64 = 0x72656164;
+// The most that is read.
+const INPUT: usize = 2_097_152;
 
-const WRITE: u64 = 0x7772697465;
-
-const UTF8: u64 = 0x75746638;
-
-const GAP: u64 = 0x676170;
-
-const CALL: u64 = 0x63616c6c;
-
-const SKIP: u64 = 0x736b6970;
-
-const READER: u64 = 0x726561646572;
-
-const WRITER: u64 = 0x777269746572;
-
-fn answer(rt: &impl Print, line: &[u8]) -> io::Result<()> {
-    match words::name(line, 0) {
-        READ => number_cases::read(rt, line),
-        WRITE => number_cases::write(rt, line),
-        UTF8 => utf8_cases::passes(rt, line),
-        GAP => utf8_cases::gap(rt, line),
-        CALL => call_cases::call(rt, line),
-        SKIP => call_cases::skip(rt, line),
-        READER => call_cases::row(rt, line),
-        WRITER => writer::row(rt, line),
-        _ => say::text(rt, b" ?"),
+// The case's answer, by its group. Another crate's cases are one more group.
+fn answer(alloc: Global, rt: &impl Print, line: Line<'_>) -> io::Result<()> {
+    match line.name(0) {
+        b"read" => number_cases::read(alloc, rt, line),
+        b"write" => number_cases::write(rt, line),
+        b"utf8" => utf8_cases::passes(alloc, rt, line),
+        b"gap" => utf8_cases::gap(alloc, rt, line),
+        b"call" => call_cases::call(alloc, rt, line),
+        b"skip" => call_cases::skip(alloc, rt, line),
+        b"reader" => call_cases::row(alloc, rt, line),
+        b"writer" => writer::row(alloc, rt, line),
+        _ => rt.write_all(b" ?"),
     }
 }
 
-fn case(rt: &impl Print, line: &[u8]) -> io::Result<()> {
-    if say::asks(rt, line)? {
-        answer(rt, line)?;
+fn case(alloc: Global, rt: &impl Print, line: &[u8]) -> io::Result<()> {
+    rt.write_all(line)?;
+    if !line.is_empty() && !line.starts_with(b"#") {
+        rt.write_all(b" =")?;
+        answer(alloc, rt, Line(line))?;
     }
-    say::text(rt, b"\n")
-}
-
-fn run(rt: &impl Print, s: &[u8]) -> io::Result<()> {
-    let mut p: usize = 0;
-    while p < s.len() {
-        let e = words::find(s, p, b'\n');
-        case(rt, words::part(s, p, e))?;
-        if s.len() <= e {
-            return Ok(());
-        }
-        p = e + 1;
-    }
-    Ok(())
+    rt.write_all(b"\n")
 }
 
 fn main(rt: HostRuntime) -> io::Result<()> {
-    let mut input = words::room();
-    let n = system::read_full(&mut rt.stdin(), &mut input);
-    run(&rt, &input[..n])
+    let input = system::read_up_to(rt.alloc(), &mut rt.stdin(), INPUT)?;
+    for line in input.split_inclusive(|b| *b == b'\n') {
+        case(rt.alloc(), &rt, line.strip_suffix(b"\n").unwrap_or(line))?;
+    }
+    Ok(())
 }

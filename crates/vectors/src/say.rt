@@ -1,102 +1,67 @@
-// Writing a case and its answer to standard output. Each part of an answer comes with a space before it.
-use std::io;
+// A case's answer as text. Each part of an answer comes with a space before it.
+use std::{fmt, io};
 
-// What a call answers. No refusal has the number 0: it stands for a case that is not known.
+// Bytes as hex, `-` where there are none.
 #[derive(Clone, Copy)]
-pub(crate) enum Answer {
-    Number(u64, usize),
-    Signed(i64, usize),
-    Bits(u64, usize),
+pub(crate) struct Hex<'a>(pub(crate) &'a [u8]);
+
+impl fmt::Display for Hex<'_> {
+    fn fmt<W: fmt::Write>(&self, f: &mut fmt::Formatter<W>) -> fmt::Result {
+        if self.0.is_empty() {
+            return write!(f, "-");
+        }
+        for b in self.0 {
+            write!(f, "{b:02x}")?;
+        }
+        Ok(())
+    }
+}
+
+// What a call answers, types by their codes. No refusal has the number 0: it stands for a case that is not known.
+#[derive(Clone, Copy)]
+pub(crate) enum Answer<'a> {
+    Done,
+    Stop,
+    Field(u8, i16),
+    Items(u8, u32),
+    Map(u8, u8, u32),
+    Message(u8, i32, &'a [u8]),
+    Bytes(&'a [u8]),
+    Truth(bool),
+    Number(u64),
+    Signed(i64),
+    // of a double
+    Bits(u64),
     Refused(u8),
 }
 
-// The number, a double's bits being 16 hex digits, and the place behind it; or the refusal's number.
-pub(crate) fn all_of(rt: &impl Print, a: Answer) -> io::Result<()> {
-    match a {
-        Answer::Number(n, p) => {
-            number(rt, n)?;
-            number(rt, p as u64)
+impl fmt::Display for Answer<'_> {
+    fn fmt<W: fmt::Write>(&self, f: &mut fmt::Formatter<W>) -> fmt::Result {
+        match *self {
+            Answer::Done => Ok(()),
+            Answer::Stop => write!(f, " stop"),
+            Answer::Field(kind, id) => write!(f, " {kind} {id}"),
+            Answer::Items(kind, count) => write!(f, " {kind} {count}"),
+            Answer::Map(key, value, count) => write!(f, " {key} {value} {count}"),
+            Answer::Message(kind, sequence, name) => {
+                write!(f, " {kind} {sequence} {}", Hex(name))
+            }
+            Answer::Bytes(bytes) => write!(f, " {}", Hex(bytes)),
+            Answer::Truth(true) => write!(f, " yes"),
+            Answer::Truth(false) => write!(f, " no"),
+            Answer::Number(n) => write!(f, " {n}"),
+            Answer::Signed(n) => write!(f, " {n}"),
+            Answer::Bits(n) => write!(f, " {n:016x}"),
+            Answer::Refused(why) => write!(f, " refused {why}"),
         }
-        Answer::Signed(n, p) => {
-            signed(rt, n)?;
-            number(rt, p as u64)
-        }
-        Answer::Bits(n, p) => {
-            print!(rt; " {n:016x}")?;
-            number(rt, p as u64)
-        }
-        Answer::Refused(n) => {
-            text(rt, b" refused")?;
-            number(rt, n as u64)
-        }
     }
 }
 
-// Writes a line again; whether it is a case that asks for an answer, ` =` standing behind it then. An empty line and one that begins with # are none.
-pub(crate) fn asks(rt: &impl Print, line: &[u8]) -> io::Result<bool> {
-    text(rt, line)?;
-    if line.len() == 0 {
-        return Ok(false);
+// The answer, and the place behind what was read or written; a refusal has none.
+pub(crate) fn tell(rt: &impl Print, answer: Answer<'_>, place: usize) -> io::Result<()> {
+    rt.print(answer)?;
+    match answer {
+        Answer::Refused(_) => Ok(()),
+        _ => print!(rt; " {place}"),
     }
-    if line[0] == b'#' {
-        return Ok(false);
-    }
-    text(rt, b" =")?;
-    Ok(true)
-}
-
-pub(crate) fn text(rt: &impl Print, s: &[u8]) -> io::Result<()> {
-    rt.write_all(s)
-}
-
-pub(crate) fn number(rt: &impl Print, n: u64) -> io::Result<()> {
-    print!(rt; " {n}")
-}
-
-pub(crate) fn signed(rt: &impl Print, n: i64) -> io::Result<()> {
-    if 0 <= n {
-        text(rt, b" ")?;
-    } else {
-        text(rt, b" -")?;
-    }
-    rt.print(distance(n))
-}
-
-// How far a number is from 0.
-fn distance(n: i64) -> u64 {
-    if 0 <= n {
-        return n as u64;
-    }
-    (!n) as u64 + 1
-}
-
-pub(crate) fn truth(rt: &impl Print, yes: bool) -> io::Result<()> {
-    if yes {
-        text(rt, b" yes")
-    } else {
-        text(rt, b" no")
-    }
-}
-
-// A byte as two hex digits.
-pub(crate) fn byte(rt: &impl Print, b: u8) -> io::Result<()> {
-    print!(rt; "{b:02x}")
-}
-
-// Bytes as hex, `-` where there are none.
-pub(crate) fn bytes(rt: &impl Print, s: &[u8]) -> io::Result<()> {
-    if s.len() == 0 {
-        return text(rt, b" -");
-    }
-    text(rt, b" ")?;
-    hex(rt, s)
-}
-
-fn hex(rt: &impl Print, s: &[u8]) -> io::Result<()> {
-    let mut i: usize = 0;
-    while i < s.len() {
-        byte(rt, s[i])?;
-        i += 1;
-    }
-    Ok(())
 }

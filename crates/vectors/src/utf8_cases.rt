@@ -1,60 +1,58 @@
 // The cases of crate utf8.
-use crate::{say, words};
+use crate::line::Line;
+use crate::say::Answer;
+use std::alloc::Global;
 use std::io;
 
+// The most bytes of a case.
+const ROOM: usize = 4096;
+
 // `utf8 BYTES`: whether these bytes pass.
-pub(crate) fn passes(rt: &impl Print, line: &[u8]) -> io::Result<()> {
-    let mut room = system::buffer();
-    let n = words::bytes(line, 1, &mut room, 0);
-    say::truth(rt, utf8::is_utf8(words::part(&room, 0, n)))
+pub(crate) fn passes(alloc: Global, rt: &impl Print, line: Line<'_>) -> io::Result<()> {
+    let bytes = line.bytes(alloc, 1, ROOM)?;
+    rt.print(Answer::Truth(utf8::is_utf8(&bytes)))
 }
 
 // `gap BYTES BYTES`: which of the 256 bytes pass when they stand between these, as ranges.
-pub(crate) fn gap(rt: &impl Print, line: &[u8]) -> io::Result<()> {
-    let mut room = system::buffer();
-    let n = words::bytes(line, 1, &mut room, 0);
-    let e = words::bytes(line, 2, &mut room, std::num::wrapping_add_usize(n, 1));
-    ranges(rt, &mut room, n, e)
+pub(crate) fn gap(alloc: Global, rt: &impl Print, line: Line<'_>) -> io::Result<()> {
+    let mut row = line.bytes(alloc, 1, ROOM)?;
+    let gap = row.len();
+    if gap < ROOM {
+        row.push(0)?;
+        let behind = line.bytes(alloc, 2, ROOM - gap - 1)?;
+        row.extend_from_slice(&behind)?;
+    }
+    ranges(rt, &mut row, gap)
 }
 
-// The bytes that pass at place n of the row up to e: ` 80-8f a0-a0`.
-fn ranges(rt: &impl Print, row: &mut [u8], n: usize, e: usize) -> io::Result<()> {
+// The bytes that pass in the row's gap: ` 80-8f a0-a0`.
+fn ranges(rt: &impl Print, row: &mut [u8], gap: usize) -> io::Result<()> {
     let mut any = false;
     let mut open = false;
-    let mut b: u64 = 0;
-    while b < 256 {
-        let pass = passes_with(row, n, e, b);
-        if pass {
+    for b in 0..=u8::MAX {
+        let pass = passes_with(row, gap, b);
+        if pass && !open {
+            print!(rt; " {b:02x}")?;
             any = true;
         }
-        edge(rt, b, open, pass)?;
+        if open && !pass {
+            print!(rt; "-{:02x}", b.wrapping_sub(1))?;
+        }
         open = pass;
-        b += 1;
     }
-    edge(rt, b, open, false)?;
-    if any {
-        return Ok(());
+    if open {
+        rt.write_all(b"-ff")?;
     }
-    say::text(rt, b" none")
+    if !any {
+        rt.write_all(b" none")?;
+    }
+    Ok(())
 }
 
-fn passes_with(row: &mut [u8], n: usize, e: usize, b: u64) -> bool {
-    if row.len() <= n {
-        return false;
+fn passes_with(row: &mut [u8], gap: usize, b: u8) -> bool {
+    match row.get_mut(gap) {
+        Some(byte) => *byte = b,
+        None => return false,
     }
-    row[n] = (b % 256) as u8;
-    utf8::is_utf8(words::part(row, 0, e))
-}
-
-// What is said at byte b: a range's begin, its end at the byte before, or nothing.
-fn edge(rt: &impl Print, b: u64, open: bool, pass: bool) -> io::Result<()> {
-    if pass == open {
-        return Ok(());
-    }
-    if pass {
-        say::text(rt, b" ")?;
-        return say::byte(rt, (b % 256) as u8);
-    }
-    say::text(rt, b"-")?;
-    say::byte(rt, (std::num::wrapping_sub_u64(b, 1) % 256) as u8)
+    utf8::is_utf8(row)
 }

@@ -1,13 +1,14 @@
 -- Zigzag at every width: the code's bits have the signed meaning that `zigzag` and `unzigzag` give. Assumes nothing.
-use Rattle.std.proofs.Common.{◌≡◌, ℕ, zero, suc, ◌+◌, ◌-◌, ◌*◌, ◌/◌, ◌%◌, ◌^◌, ◌<◌, Bool, true, false, ◌&&◌, T, ltb, leb, ◌⊎◌, ℤ, pos, negsuc, nat_abs, sym, refl, ap, ◌∙◌, inl, inr, ⊎_elim, add-zero, mod-eq_of_lt, arith, to_z-of_z, w8, w16, w32, w64, Fits, SFits, to_z, of_z, ltb-true, le-ltb, lt-ltb, eq-eqb, ne_eqb, leb-false, leb-true}
-use native.Mathlib.Decide.{dec_lt}
-use lib.Signed.{le_z, non_neg}
+use Rattle.std.proofs.Common.{◌≡◌, ℕ, suc, ◌+◌, ◌-◌, ◌*◌, ◌/◌, ◌%◌, ◌^◌, ◌<◌, Bool, true, false, ◌&&◌, T, ltb, leb, ℤ, pos, negsuc, nat_abs, sym, refl, ap, ◌∙◌, ⊎_elim, mod-eq_of_lt, arith, to_z-of_z, w8, w16, w32, w64, Fits, SFits, to_z, of_z, ltb-true, le-ltb, lt-ltb, eq-eqb, ne_eqb, leb-false, leb-true}
+use lib.Signed.{le_z, non_neg, shr_z}
 use lib.Bits.{bit_xor, xor_zero_r, xor_add_and, and_mask}
-use lib.Dec.{leb-zero}
 use mir.Syntax.{Width, w128}
 use mir.Val.{bits, hbits}
-use mir.Facts.{to_z_pos, to_z-neg, sfits_to_z, Fits-xor, Fits-div, Fits-of_z}
+use mir.Facts.{to_z_pos, to_z-neg, of_z-to_z}
+use Rattle.std.proofs.Math.Nat.{zero-add, sub-zero, div-eq_of_lt, mod_self, add-mul-mod_self_left}
 use Rattle.zigzag.specs.Zigzag.{zigzag, unzigzag, in_range16}
+use Rattle.zigzag.specs.Laws.{parity}
+pub use Rattle.zigzag.specs.Laws.{un_zig, zig_un}
 
 -- a width's power is twice its half's
 twice_half : (w : Width) → 2 ^ bits w ≡ 2 * 2 ^ hbits w
@@ -27,74 +28,58 @@ twice_lt w h = omega (arith, twice_half w)
 xor_ones : (k x : ℕ) → x < 2 ^ k → bit_xor x (2 ^ k - 1) ≡ 2 ^ k - suc x
 xor_ones k x h = omega (arith, xor_add_and x (2 ^ k - 1), and_mask x k, mod-eq_of_lt h)
 
--- zero less an odd number's lowest bit, wrapped: all bits
-all_ones : (M m : ℕ) → m < M → (m + 1) % M ≡ 0 → m ≡ M - 1
-all_ones M m h e = go (dec_lt (m + 1) M)
+-- The half, with every bit turned by the lowest: the code of `from_zigzag`
+pub decoded : (w : Width) (n : ℕ) → Fits w n
+    → to_z w (of_z w (to_z w (bit_xor (n / 2) ((0 + (2 ^ bits w - n % 2)) % 2 ^ bits w)))) ≡ unzigzag n
+decoded w n h = ⊎_elim even odd (parity n)
   where
-    go : Dec (m + 1 < M) → m ≡ M - 1
-    go (yes p) = omega (arith, mod-eq_of_lt p)
-    go (no p) = omega arith
+    even : n % 2 ≡ 0 → to_z w (of_z w (to_z w (bit_xor (n / 2) ((0 + (2 ^ bits w - n % 2)) % 2 ^ bits w)))) ≡ unzigzag n
+    even e =
+        let half : to_z w (n / 2) ≡ pos (n / 2) = to_z_pos w (half_lt w h.fits) in
+        let none : (0 + (2 ^ bits w - n % 2)) % 2 ^ bits w ≡ 0 = rw (e, zero-add, sub-zero) (mod_self (2 ^ bits w)) in
+        rw (none, xor_zero_r, eq-eqb (n % 2) 0 e, half) half
 
-parity : (n : ℕ) → (n % 2 ≡ 0) ⊎ (n % 2 ≡ 1)
-parity n = go (n % 2) refl (omega arith)
-  where
-    go : (r : ℕ) → n % 2 ≡ r → r < 2 → (n % 2 ≡ 0) ⊎ (n % 2 ≡ 1)
-    go zero e h = inl e
-    go (suc zero) e h = inr e
-    go (suc (suc r)) e h = absurd (omega arith)
+    odd : n % 2 ≡ 1 → to_z w (of_z w (to_z w (bit_xor (n / 2) ((0 + (2 ^ bits w - n % 2)) % 2 ^ bits w)))) ≡ unzigzag n
+    odd e =
+        let low : n / 2 < 2 ^ bits w = omega (arith, h.fits) in
+        let turned : to_z w (2 ^ bits w - suc (n / 2)) ≡ negsuc (n / 2) = to_z-neg w (n / 2) (half_lt w h.fits) in
+        let all : (0 + (2 ^ bits w - n % 2)) % 2 ^ bits w ≡ 2 ^ bits w - 1 = rw (e, zero-add) (mod-eq_of_lt (omega (arith, h.fits))) in
+        rw (all, xor_ones (bits w) (n / 2) low, ne_eqb (n % 2) 0 (omega arith), turned) turned
 
-module _ (w : Width) (n m : ℕ) (hn : Fits w n) (hm : Fits w m) where
-  even : n % 2 ≡ 0 → (m + n % 2) % 2 ^ bits w ≡ 0 → to_z w (bit_xor (n / 2) m) ≡ unzigzag n
-  even e f =
-      let z : m ≡ 0 = sym (mod-eq_of_lt hm.fits) ∙ (rw (e, add-zero) at f) in
-      rw (z, xor_zero_r, eq-eqb (n % 2) 0 e) (to_z_pos w (half_lt w hn.fits))
+-- twice the bits of a number below 0, wrapped
+wrapped : (M k : ℕ) → k * 2 + 1 < M → (M - suc k) * 2 % M ≡ M - 2 * suc k
+wrapped M k h =
+    let e : (M - suc k) * 2 ≡ M - 2 * suc k + M * 1 = omega (arith, h) in
+    rw e (add-mul-mod_self_left (M - 2 * suc k) M 1 ∙ mod-eq_of_lt (omega (arith, h)))
 
-  odd : n % 2 ≡ 1 → (m + n % 2) % 2 ^ bits w ≡ 0 → to_z w (bit_xor (n / 2) m) ≡ unzigzag n
-  odd e f =
-      let z : m ≡ 2 ^ bits w - 1 = all_ones (2 ^ bits w) m hm.fits (rw e at f) in
-      let h : n / 2 < 2 ^ bits w = omega (arith, hn.fits) in
-      rw (z, xor_ones (bits w) (n / 2) h, ne_eqb (n % 2) 0 (omega arith)) (to_z-neg w (n / 2) (half_lt w hn.fits))
+-- The doubled bits, with every bit turned by the sign: the code of `to_zigzag`
+pub encoded : (w : Width) (z : ℤ) → SFits w z
+    → of_z w (to_z w (bit_xor (of_z w z * 2 % 2 ^ bits w) (of_z w (shr_z (to_z w (of_z w z)) (2 ^ hbits w))))) ≡ zigzag z
+encoded w (pos n) h =
+    let small : n * 2 < 2 ^ bits w = omega (arith, twice_lt w h.sfits) in
+    let fit : Fits w (n * 2) = record { fits = small } in
+    rw (to_z_pos w h.sfits, div-eq_of_lt h.sfits, mod-eq_of_lt small, xor_zero_r, of_z-to_z fit) (omega arith)
+encoded w (negsuc k) h =
+    let small : k * 2 + 1 < 2 ^ bits w = twice_lt w h.sfits in
+    let fit : Fits w (k * 2 + 1) = record { fits = small } in
+    let m : (2 ^ bits w - suc k) * 2 % 2 ^ bits w ≡ 2 ^ bits w - 2 * suc k = wrapped (2 ^ bits w) k small in
+    let x : bit_xor (2 ^ bits w - 2 * suc k) (2 ^ bits w - 1) ≡ k * 2 + 1 = xor_ones (bits w) (2 ^ bits w - 2 * suc k) (omega (arith, small)) ∙ omega (arith, small) in
+    rw (to_z-neg w k h.sfits, div-eq_of_lt h.sfits, m, x, of_z-to_z fit) (omega arith)
 
-  pub decoded : (r : ℤ) → (m + n % 2) % 2 ^ bits w ≡ 0 → r ≡ to_z w (bit_xor (n / 2) m) → to_z w (of_z w r) ≡ unzigzag n
-  decoded r f e =
-      rw e
-      (to_z-of_z (sfits_to_z (Fits-xor (Fits-div 2 hn) hm))
-      ∙ ⊎_elim (λ p. even p f) (λ p. odd p f) (parity n))
-
--- a number not below 0, and one below 0 with its bits turned
-pub record Plain (w : Width) (bs z-bits add : ℕ) : Type 0 where
-  pub number : ℕ
-  pub is : to_z w bs ≡ pos number
-  pub same : bs ≡ number
-  pub small : number < 2 ^ hbits w
-  pub zig : z-bits ≡ 2 * number + add
+pub ruleset codes = (decoded, encoded)
 
 false_true : false ≡ true → ⊥
 false_true e = let z : ◌≡◌ {A = ℕ} 0 1 = cc in omega arith
 
-pub up : (w : Width) (z : ℤ) → SFits w z → le_z (pos 0) (to_z w (of_z w z)) ≡ true → Plain w (of_z w z) (zigzag z) 0
-up w (pos k) h t = record { number = k; is = to_z_pos w h.sfits; same = refl; small = h.sfits; zig = omega arith }
-up w (negsuc k) h t = absurd (false_true (rw (to_z-of_z h) at t))
+-- what a cast of a number not below 0 asks, for `search` in the crates above
+module _ (w : Width) where
+  pub up_sign : (z : ℤ) → SFits w z → le_z (pos 0) (to_z w (of_z w z)) ≡ true → T (non_neg (to_z w (of_z w z)))
+  up_sign (pos k) h t = rw (to_z_pos w h.sfits) tt
+  up_sign (negsuc k) h t = absurd (false_true (rw (to_z-of_z h) at t))
 
-pub down : (w : Width) (z : ℤ) → SFits w z → le_z (pos 0) (to_z w (of_z w z)) ≡ false → Plain w (2 ^ bits w - 1 - of_z w z) (zigzag z) 1
-down w (pos k) h t = absurd (false_true (sym (rw (to_z-of_z h) at t) ∙ leb-zero k))
-down w (negsuc k) h t =
-    let e : 2 ^ bits w - 1 - (2 ^ bits w - suc k) ≡ k = omega (arith, twice_lt w h.sfits) in
-    record { number = k; is = rw e (to_z_pos w h.sfits); same = e; small = h.sfits; zig = refl }
-
--- zigzag and back
-pub un_zig : (z : ℤ) → unzigzag (zigzag z) ≡ z
-un_zig (pos n) =
-    let e : 2 * n % 2 ≡ 0 = omega arith in
-    let d : 2 * n / 2 ≡ n = omega arith in
-    rw (e, d)
-un_zig (negsuc n) =
-    let e : (2 * n + 1) % 2 ≡ 1 = omega arith in
-    let d : (2 * n + 1) / 2 ≡ n = omega arith in
-    rw (e, d)
-
-pub zig_un : (n : ℕ) → zigzag (unzigzag n) ≡ n
-zig_un n = ⊎_elim (λ p. rw (eq-eqb (n % 2) 0 p) (omega arith)) (λ p. rw (ne_eqb (n % 2) 0 (omega arith)) (omega arith)) (parity n)
+  pub up_cast : (z : ℤ) → SFits w z → le_z (pos 0) (to_z w (of_z w z)) ≡ true → Fits w (nat_abs (to_z w (of_z w z)))
+  up_cast (pos k) h t = rw (to_z_pos w h.sfits) (record { fits = omega (arith, twice_lt w h.sfits) })
+  up_cast (negsuc k) h t = absurd (false_true (rw (to_z-of_z h) at t))
 
 -- a signed number of a width has a zigzag number of that width
 pub zig_below : (w : Width) (z : ℤ) → SFits w z → zigzag z < 2 ^ bits w
@@ -129,46 +114,3 @@ fits_range z e = small z (ltb-true (zigzag z) 65536 (sym (zig_range z) ∙ e))
     small : (z : ℤ) → zigzag z < 65536 → SFits w16 z
     small (pos n) h = record { sfits = omega arith }
     small (negsuc n) h = record { sfits = omega arith }
-
--- bits that are turned twice
-pub turned_twice : (w : Width) (n : ℕ) → n < 2 ^ bits w → to_z w (2 ^ bits w - 1 - (2 ^ bits w - 1 - n)) ≡ to_z w n
-turned_twice w n h = let e : 2 ^ bits w - 1 - (2 ^ bits w - 1 - n) ≡ n = omega arith in ap (to_z w) e
-
--- What the code asks and answers at a number not below 0 and at one below 0, for `search`
-module _ (w : Width) (z : ℤ) (h : SFits w z) where
-  module _ (t : le_z (pos 0) (to_z w (of_z w z)) ≡ true) where
-    pub up_sign : T (non_neg (to_z w (of_z w z)))
-    up_sign = let f = up w z h t in rw f.is tt
-
-    pub up_cast : Fits w (nat_abs (to_z w (of_z w z)))
-    up_cast = let f = up w z h t in rw f.is (record { fits = omega (arith, twice_lt w f.small) })
-
-    pub up_twice : Fits w (nat_abs (to_z w (of_z w z)) * 2)
-    up_twice = let f = up w z h t in rw f.is (record { fits = omega (arith, twice_lt w f.small) })
-
-    pub up_zig : nat_abs (to_z w (of_z w z)) * 2 ≡ zigzag z
-    up_zig = let f = up w z h t in rw f.is (omega (arith, f.zig))
-
-    pub up_bits : nat_abs (to_z w (of_z w z)) ≡ of_z w z
-    up_bits = let f = up w z h t in rw f.is (sym f.same)
-
-  module _ (t : le_z (pos 0) (to_z w (of_z w z)) ≡ false) where
-    pub down_sign : T (non_neg (to_z w (2 ^ bits w - 1 - of_z w z)))
-    down_sign = let f = down w z h t in rw f.is tt
-
-    pub down_cast : Fits w (nat_abs (to_z w (2 ^ bits w - 1 - of_z w z)))
-    down_cast = let f = down w z h t in rw f.is (record { fits = omega (arith, twice_lt w f.small) })
-
-    pub down_twice : Fits w (nat_abs (to_z w (2 ^ bits w - 1 - of_z w z)) * 2)
-    down_twice = let f = down w z h t in rw f.is (record { fits = omega (arith, twice_lt w f.small) })
-
-    pub down_more : Fits w (nat_abs (to_z w (2 ^ bits w - 1 - of_z w z)) * 2 + 1)
-    down_more = let f = down w z h t in rw f.is (record { fits = omega (arith, twice_lt w f.small) })
-
-    pub down_zig : nat_abs (to_z w (2 ^ bits w - 1 - of_z w z)) * 2 + 1 ≡ zigzag z
-    down_zig = let f = down w z h t in rw f.is (omega (arith, f.zig))
-
-    pub down_bits : 2 ^ bits w - 1 - nat_abs (to_z w (2 ^ bits w - 1 - of_z w z)) ≡ of_z w z
-    down_bits = let f = down w z h t in rw f.is (omega (arith, f.same, (Fits-of_z h).fits))
-
-pub ruleset to_zig = (up_sign, up_cast, up_twice, up_zig, up_bits, down_sign, down_cast, down_twice, down_more, down_zig, down_bits)

@@ -1,1 +1,2 @@
 pub mod Zigzag
+pub mod Laws

@@ -1,9 +1,6 @@
 use Rattle.puts.proofs.Pieces.{header_cases}
 use Rattle.puts.proofs.field_header.Goals as goal
 
-pub overflow_cast-id : goal.overflow_cast-id
-overflow_cast-id c = search header_cases
-
 pub returns-then-delta-eq0 : goal.returns-then-delta-eq0
 returns-then-delta-eq0 c = search header_cases
 

@@ -1,9 +1,6 @@
 use Rattle.puts.proofs.Pieces.{field_len_cases}
 use Rattle.puts.proofs.field_len.Goals as goal
 
-pub overflow_cast-id : goal.overflow_cast-id
-overflow_cast-id c = search field_len_cases
-
 pub overflow_add-result : goal.overflow_add-result
 overflow_add-result c = search field_len_cases
 

@@ -1,9 +1,6 @@
 use Rattle.output.proofs.Cases.{int_cases}
 use Rattle.output.proofs.TCompactOutputProtocol.write_i16.Goals as goal
 
-pub overflow_cast-n : goal.overflow_cast-n
-overflow_cast-n c = search int_cases
-
 pub returns-then-why-ne0 : goal.returns-then-why-ne0
 returns-then-why-ne0 c = search int_cases
 

@@ -4,9 +4,6 @@ use Rattle.tagrumzil.proofs.writing.tagrumzil_write_i16.Goals as goal
 pub returns-then-why-ne0 : goal.returns-then-why-ne0
 returns-then-why-ne0 c = search int_cases
 
-pub overflow_cast-n : goal.overflow_cast-n
-overflow_cast-n c = search int_cases
-
 pub returns-then-stop-ne0 : goal.returns-then-stop-ne0
 returns-then-stop-ne0 c = search int_cases
 

@@ -3,7 +3,7 @@ use Rattle.std.proofs.Common.{◌≡◌, ◌-◌, length}
 use Rattle.vectors.proofs.writer.calls.Given as goal
 
 abbrev pub invariant-loop-i : goal.invariant-loop-i
-invariant-loop-i g l = length l.buf ≡ length l.initial.buf
+invariant-loop-i g l = length l.lent ≡ length l.initial.lent
 
 abbrev pub decreases-loop-i : goal.decreases-loop-i
 decreases-loop-i g l = 1000 - l.i

@@ -1,8 +1,0 @@
-use Rattle.binary_heads.proofs.Cases.{double_cases}
-use Rattle.binary_heads.proofs.read_double.Goals as goal
-
-pub returns-in-Got : goal.returns-in-Got
-returns-in-Got c = search double_cases
-
-pub returns-in-Refused : goal.returns-in-Refused
-returns-in-Refused c = search double_cases

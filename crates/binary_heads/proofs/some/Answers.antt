@@ -1,8 +1,0 @@
-use Rattle.heads.proofs.Cases.{some_cases}
-use Rattle.binary_heads.proofs.some.Goals as goal
-
-pub returns-then-s-from : goal.returns-then-s-from
-returns-then-s-from c = search some_cases
-
-pub returns : goal.returns
-returns c = search some_cases

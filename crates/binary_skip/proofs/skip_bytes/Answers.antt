@@ -1,8 +1,0 @@
-use Rattle.binary_skip.proofs.Leaf.{leaf_ends}
-use Rattle.binary_skip.proofs.skip_bytes.Goals as goal
-
-pub returns-in-Got : goal.returns-in-Got
-returns-in-Got c = search leaf_ends
-
-pub returns-in-Refused : goal.returns-in-Refused
-returns-in-Refused c = search leaf_ends

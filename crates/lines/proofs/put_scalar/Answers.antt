@@ -1,5 +1,0 @@
-use Rattle.lines.proofs.Rows.{value_rows}
-use Rattle.lines.proofs.put_scalar.Goals as goal
-
-pub returns : goal.returns
-returns c = search value_rows

@@ -1,5 +1,0 @@
-use Rattle.lines.proofs.Rows.{piece_rows}
-use Rattle.lines.proofs.put_seq.Goals as goal
-
-pub returns : goal.returns
-returns c = search piece_rows

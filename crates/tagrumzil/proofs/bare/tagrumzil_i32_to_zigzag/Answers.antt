@@ -1,5 +1,0 @@
-use Rattle.tagrumzil.proofs.Bared.{zigs}
-use Rattle.tagrumzil.proofs.bare.tagrumzil_i32_to_zigzag.Goals as goal
-
-pub returns : goal.returns
-returns c = search zigs

@@ -1,6 +1,0 @@
-use Rattle.std.proofs.Common.{w64}
-use Rattle.zigzag.proofs.Zig.{turned_twice}
-use Rattle.zigzag.proofs.signed64.Goals as goal
-
-pub returns-else-bits-lt9223372036854775808 : goal.returns-else-bits-lt9223372036854775808
-returns-else-bits-lt9223372036854775808 c = search (turned_twice w64)
