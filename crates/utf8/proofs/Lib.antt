@@ -1,4 +1,5 @@
 pub mod Laws
 pub mod Rows
 pub mod Library
+pub mod Short
 pub mod Samples

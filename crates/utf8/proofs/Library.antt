@@ -1,6 +1,7 @@
 -- What the library calls UTF-8 is what this crate's definitions call so. Assumes nothing.
 use Rattle.std.proofs.Common.{◌≡◌, ℕ, List, [], ◌∷◌, ◌++◌, Bool, true, false, cond, ◌&&◌, ◌||◌, refl, sym, ap₂, ◌∙◌, arith}
 use borrow.Author.Tests.{lt-ltb, le-ltb, le-leb, lt-leb}
+use Rattle.std.specs.Prelude.{IsTrue, ◌↔◌}
 use Rattle.std.specs.Str.{IsUtf8}
 use lib.Utf8 as Std
 use lib.Dec.{leb, ltb}
@@ -56,3 +57,8 @@ refused bs h = go (utf8 bs) refl
     go false e = refl
 
 pub ruleset text_cases = (passes, refused)
+
+-- an answer that is true of texts alone, and of each
+pub just_texts : (bs : List ℕ) (r : Bool) → (IsTrue r ↔ IsUtf8 bs) → r ≡ utf8 bs
+just_texts bs true h = passes bs (h.0 refl)
+just_texts bs false h = refused bs (λ u. let t : false ≡ true = h.1 u in cc)
