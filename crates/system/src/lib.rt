@@ -19,7 +19,9 @@ const EINVAL: i32 = 22;
 
 const ENAMETOOLONG: i32 = 36;
 
-// How many bytes are asked of a reader at a time.
+// How many bytes are asked of a reader at first, and then at a time.
+const SHORT: usize = 4096;
+
 const CHUNK: usize = 65_536;
 
 // The longest word of the command line that is taken: no path is longer.
@@ -56,7 +58,8 @@ pub fn zeros(alloc: Global, n: usize) -> Result<Vec<u8>, AllocError>
     vec![in alloc; 0; n]
 }
 
-// What a reader gives, up to so many bytes: all until the input ends or a read fails. (`read_to_end` would keep what came before a failed read too, but no clause says so.)
+// What a reader gives, up to so many bytes: all until the input ends or a read fails. (`read_to_end` would keep what came before a failed read
+// too, but no clause says so.) Most files are short: the zeros that a long one is read into would take longer than to read it.
 pub fn read_up_to<R: Read>(
     alloc: Global,
     reader: &mut R,
@@ -64,7 +67,22 @@ pub fn read_up_to<R: Read>(
 ) -> Result<Vec<u8>, AllocError>
     ensures { IfOk result (λ v. vec_len v ≤ most) }
 {
-    let mut bytes = Vec::new(alloc);
+    let mut short = buffer::<SHORT>();
+    let room = SHORT.min(most);
+    let n = read_full(reader, &mut short[..room]);
+    let bytes = Vec::from_slice(alloc, &short[..n])?;
+    if n < room {
+        return Ok(bytes);
+    }
+    read_on(reader, bytes, most)
+}
+
+// The same behind what was read.
+fn read_on<R: Read>(reader: &mut R, front: Vec<u8>, most: usize) -> Result<Vec<u8>, AllocError>
+    requires { vec_len front ≤ most }
+    ensures { IfOk result (λ v. vec_len v ≤ most) }
+{
+    let mut bytes = front;
     let mut chunk = buffer::<CHUNK>();
     while bytes.len() < most {
         let room = CHUNK.min(most - bytes.len());

@@ -1,6 +1,6 @@
--- `read_up_to` ends, since each turn but the last leaves less room.
+-- `read_on` ends, since each turn but the last leaves less room.
 use Rattle.std.proofs.Common.{length, ◌-◌, ◌≡◌, ◌≤◌, vec_len}
-use Rattle.system.proofs.read_up_to.Given as goal
+use Rattle.system.proofs.read_on.Given as goal
 
 abbrev pub invariant-loop-chunk : goal.invariant-loop-chunk
 invariant-loop-chunk g l = (vec_len l.bytes ≤ l.most) × (length l.chunk ≡ 65536)
