@@ -4,6 +4,8 @@
 // stdout.
 #![tactic(auto)]
 
+ghost use Rattle.std.specs.Prelude.{◌<◌};
+
 mod answer;
 
 use answer::Answer;
@@ -77,7 +79,9 @@ fn scalar(state: TBinaryInputProtocol, s: &[u8], call: usize) -> Called {
 }
 
 // Number k of the line; 0 where it has fewer.
-fn number(line: &[u8], k: usize) -> usize {
+fn number(line: &[u8], k: usize) -> usize
+    ensures { result < 100000 }
+{
     match line.split(|b| *b == b' ').nth(k) {
         Some(word) => cases::leading_number(word),
         None => 0,

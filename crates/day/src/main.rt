@@ -4,7 +4,7 @@
 // on standard error, and nothing is written then.
 #![tactic(auto)]
 
-ghost use Rattle.std.specs.Prelude.{◌≤◌, vec_len, IfOk, IfSome};
+ghost use Rattle.std.specs.Prelude.{◌≤◌, ◌<◌, vec_len, IfOk, IfSome};
 
 use days::Checked;
 use numbers::Wrote;
@@ -77,7 +77,9 @@ fn load<R: Env + Files + Print, E: Print>(
 fn word<R: Env + Files + Print, E: Print>(
     program: &Program<'_, R, E>,
     i: usize,
-) -> io::Result<Vec<u8>> {
+) -> io::Result<Vec<u8>>
+    ensures { IfOk result (λ v. vec_len v ≤ 4096) }
+{
     match system::word(program.alloc, program.rt, i) {
         Ok(word) => {
             if word.is_empty() {
@@ -118,12 +120,18 @@ fn list<R: Env + Files + Print, E: Print, F: Fn(&mut [u8], usize) -> usize>(
     Ok(())
 }
 
-// The number of decimal digits alone: `parse` would take a sign.
-fn number(word: &[u8]) -> Option<usize> {
+// The number of decimal digits alone: `parse` would take a sign. None where it is over 99,999: no message has such a number.
+fn number(word: &[u8]) -> Option<usize>
+    ensures { IfSome result (λ n. n < 100000) }
+{
     if !word.iter().all(|b| b.is_ascii_digit()) {
         return None;
     }
-    str::from_utf8(word).ok()?.parse().ok()
+    str::from_utf8(word)
+        .ok()?
+        .parse()
+        .ok()
+        .filter(|n| *n < 100_000)
 }
 
 // The message whose number is the third argument, as it is.
