@@ -9,7 +9,7 @@ use native.Mathlib.Decide.{dec_lt}
 use borrow.Author.Tests.{lt-ltb, le-ltb, le-leb, lt-leb, eq-eqb, ne_eqb}
 use lib.ListN.{drop}
 use lib.Seq.{drop-nil}
-use Rattle.utf8.specs.Utf8.{scalar, tail_of, encode, char, judged, tails, decode, past, utf8}
+use Rattle.utf8.specs.Utf8.{scalar, tail_of, encode, char, none, judged, tails, decode, past, utf8}
 
 -- by whether a number is below another
 pub by_less : {X : Type 0} (a b : ℕ) → (a < b → X) → (b ≤ a → X) → X
@@ -44,6 +44,10 @@ module _ (n : ℕ) where
   scalar_is s h =
       by_less n 0xD800 (λ l. rw (lt-ltb n 0xD800 l)) (λ l. rw (le-ltb n 0xD800 l, le-leb 0xE000 n (s l), le-leb n 0x10FFFF h))
 
+  pub surrogate : 0xD800 ≤ n → n < 0xE000 → scalar n ≡ false
+  unfolding scalar
+  surrogate l h = rw (le-ltb n 0xD800 l, lt-leb 0xE000 n h)
+
   pub beyond : 0x10FFFF < n → scalar n ≡ false
   unfolding scalar
   beyond h = rw (le-ltb n 0xD800 (omega arith), le-leb 0xE000 n (omega arith), lt-leb n 0x10FFFF h)
@@ -57,11 +61,23 @@ module _ (more least n : ℕ) where
   unfolding judged
   taken l s = rw (le-leb least n l, s)
 
+  pub longer : n < least → judged more least n ≡ none
+  unfolding judged
+  longer l = rw (lt-leb least n l)
+
+  pub no_scalar : least ≤ n → scalar n ≡ false → judged more least n ≡ none
+  unfolding judged
+  no_scalar l s = rw (le-leb least n l, s)
+
 -- the bytes behind the first
 module _ (more least k n : ℕ) where
   pub tail_in : (b : ℕ) (bs : List ℕ) → b / 64 ≡ 2 → tails more least (suc k) n (b ∷ bs) ≡ tails more least k (n * 64 + b % 64) bs
   unfolding tails
   tail_in b bs h = rw (eq-eqb (b / 64) 2 h)
+
+  pub tail_off : (b : ℕ) (bs : List ℕ) → (b / 64 ≡ 2 → ⊥) → tails more least (suc k) n (b ∷ bs) ≡ none
+  unfolding tails
+  tail_off b bs h = rw (ne_eqb (b / 64) 2 h)
 
 -- the first byte
 module _ (b : ℕ) (bs : List ℕ) where
@@ -82,6 +98,10 @@ module _ (b : ℕ) (bs : List ℕ) where
   lead_four h =
       rw
       (ne_eqb (b / 128) 0 (λ e. omega arith), ne_eqb (b / 32) 6 (λ e. omega arith), ne_eqb (b / 16) 14 (λ e. omega arith), eq-eqb (b / 8) 30 h)
+
+  pub lead_none : 0x80 ≤ b → (b / 32 ≡ 6 → ⊥) → (b / 16 ≡ 14 → ⊥) → (b / 8 ≡ 30 → ⊥) → decode (b ∷ bs) ≡ none
+  unfolding decode
+  lead_none h u v w = rw (ne_eqb (b / 128) 0 (λ e. omega arith), ne_eqb (b / 32) 6 u, ne_eqb (b / 16) 14 v, ne_eqb (b / 8) 30 w)
 
 -- a character of two, three and four bytes, each of its pattern
 pub read_two : (b x n : ℕ) (bs : List ℕ) → b / 32 ≡ 6 → x / 64 ≡ 2 → b % 32 * 64 + x % 64 ≡ n → decode (b ∷ x ∷ bs) ≡ judged 1 0x80 n
@@ -109,3 +129,7 @@ module _ (b : ℕ) (bs : List ℕ) where
   pub utf8_char : (n m : ℕ) → decode (b ∷ bs) ≡ char n m → utf8 (b ∷ bs) ≡ utf8 (drop m bs)
   unfolding utf8 past
   utf8_char n m e = rw e (past_drop bs m)
+
+  pub utf8_none : decode (b ∷ bs) ≡ none → utf8 (b ∷ bs) ≡ false
+  unfolding utf8 past
+  utf8_none e = rw e
