@@ -4,20 +4,28 @@
 // on standard error, and nothing is written then.
 #![tactic(auto)]
 
-ghost use Rattle.std.specs.Prelude.{◌≤◌, ◌<◌, vec_len, IfOk, IfSome};
+ghost use Rattle.std.specs.Prelude.{◌≡◌, ◌≤◌, ◌<◌, length, IfOk, IfSome};
+ghost use Rattle.system.specs.Counts.{IsPrefixLen};
 
 use days::Checked;
 use numbers::Wrote;
 use std::io::Read;
 use std::rt::{Env, Files};
 use std::{io, str};
-use system::Program;
+use system::{LONGEST_WORD, Program};
 
 // The most bytes that a file may have.
 const MOST: usize = 3_145_728;
 
 // The most messages of a day.
 const MESSAGES: usize = 4096;
+
+// Zeros in place. A contract that gives no more than how many: a proof that sees them would compute them.
+fn ends_room() -> [usize; 4096]
+    ensures { 4096 ≡ length result }
+{
+    [0; MESSAGES]
+}
 
 // More than the longest line: a name has at most 65,536 bytes, two digits each.
 const LINE_ROOM: usize = 262_144;
@@ -33,7 +41,7 @@ fn complain(err: &impl Print, what: &[u8], words: &str) -> io::Result<()> {
 
 // Whether the file ends here. A read that fails, and a file that goes on, are said.
 fn ends_here(file: &mut impl Read, err: &impl Print, path: &[u8]) -> io::Result<bool> {
-    let mut more = [0u8; 1];
+    let mut more = system::buffer::<4096>();
     match file.read(&mut more) {
         Err(e) => {
             system::fail(err, path, &e)?;
@@ -47,13 +55,13 @@ fn ends_here(file: &mut impl Read, err: &impl Print, path: &[u8]) -> io::Result<
     }
 }
 
-// The whole file. None where it is empty, or has more than so many bytes, or can't be read, which is said.
+// The whole file at the room's start, and how many bytes it has. None where it is empty, or does not fit, or can't be read, which is said.
 fn load<R: Env + Files + Print, E: Print>(
     program: &Program<'_, R, E>,
     path: &[u8],
-    most: usize,
-) -> io::Result<Option<Vec<u8>>>
-    ensures { IfOk result (λ file. IfSome file (λ v. vec_len v ≤ most)) }
+    room: &mut [u8],
+) -> io::Result<Option<usize>>
+    ensures { IfOk result (λ file. IfSome file (λ n. IsPrefixLen n room.new)) }
 {
     let mut file = match system::open(program.rt, path) {
         Ok(file) => file,
@@ -62,39 +70,49 @@ fn load<R: Env + Files + Print, E: Print>(
             return Ok(None);
         }
     };
-    let bytes = system::read_up_to(program.alloc, &mut file, most)?;
+    let n = system::read_full(&mut file, room);
     if !ends_here(&mut file, program.err, path)? {
         return Ok(None);
     }
-    if bytes.is_empty() {
+    if n == 0 {
         complain(program.err, path, ": is empty")?;
         return Ok(None);
     }
-    Ok(Some(bytes))
+    Ok(Some(n))
 }
 
-// An argument, whole; empty where there is none or an empty one, which is said.
+// An argument, whole, at the room's start, and its length; 0 where there is none or an empty one, which is said.
 fn word<R: Env + Files + Print, E: Print>(
     program: &Program<'_, R, E>,
     i: usize,
-) -> io::Result<Vec<u8>>
-    ensures { IfOk result (λ v. vec_len v ≤ 4096) }
+    room: &mut [u8],
+) -> io::Result<usize>
+    ensures { IfOk result (λ n. IsPrefixLen n room.new) }
 {
-    match system::word(program.alloc, program.rt, i) {
-        Ok(word) => {
-            if word.is_empty() {
-                complain(program.err, b"an argument", " is empty")?;
-            }
-            Ok(word)
-        }
+    let n = match system::argument(program.rt, i, room) {
+        Ok(n) => n,
         Err(e) => {
             program.fail_at("argument", &e)?;
-            Ok(Vec::new(program.alloc))
+            return Ok(0);
         }
+    };
+    if n == 0 {
+        complain(program.err, b"an argument", " is empty")?;
+    }
+    Ok(n)
+}
+
+// How many messages a day has. None where the file is no day. (Out of line, as `list` is: where its loops lie decides what they cost, docs/BENCHMARKS.md.)
+#[inline(never)]
+fn count_of(file: &[u8]) -> Option<usize> {
+    match days::check_day(file) {
+        Checked::Count(count) => Some(count),
+        Checked::Refused(_) => None,
     }
 }
 
 // The line of each message, which `put_line` puts at a buffer's start; it answers the line's end.
+#[inline(never)]
 fn list<R: Env + Files + Print, E: Print, F: Fn(&mut [u8], usize) -> usize>(
     program: &Program<'_, R, E>,
     path: &[u8],
@@ -103,10 +121,10 @@ fn list<R: Env + Files + Print, E: Print, F: Fn(&mut [u8], usize) -> usize>(
 ) -> io::Result<()>
     requires { F.IsAlwaysCallable put_line }
 {
-    let Checked::Count(count) = days::check_day(file) else {
+    let Some(count) = count_of(file) else {
         return complain(program.err, path, NO_DAY);
     };
-    let mut line = system::zeros(program.alloc, LINE_ROOM)?;
+    let mut line = system::buffer::<LINE_ROOM>();
     for k in 0..count {
         let end = put_line(&mut line, k);
         // One that fills the buffer may have been cut off, and is not written.
@@ -140,14 +158,15 @@ fn get<R: Env + Files + Print, E: Print>(
     path: &[u8],
     file: &[u8],
 ) -> io::Result<()> {
-    let digits = word(program, 3)?;
-    if digits.is_empty() {
+    let mut digits = system::buffer::<LONGEST_WORD>();
+    let n = word(program, 3, &mut digits)?;
+    if n == 0 {
         return Ok(());
     }
-    let Checked::Count(_) = days::check_day(file) else {
+    if count_of(file).is_none() {
         return complain(program.err, path, NO_DAY);
-    };
-    let message = match number(&digits) {
+    }
+    let message = match number(&digits[..n]) {
         Some(k) => days::message(file, k),
         None => b"",
     };
@@ -162,50 +181,55 @@ fn get<R: Env + Files + Print, E: Print>(
 fn look<R: Env + Files + Print, E: Print>(
     program: &Program<'_, R, E>,
     verb: &[u8],
+    room: &mut [u8],
 ) -> io::Result<()> {
-    let path = word(program, 2)?;
-    if path.is_empty() {
+    let mut name = system::buffer::<LONGEST_WORD>();
+    let n = word(program, 2, &mut name)?;
+    if n == 0 {
         return Ok(());
     }
-    let Some(file) = load(program, &path, MOST)? else {
+    let path = &name[..n];
+    let Some(n) = load(program, path, room)? else {
         return Ok(());
     };
+    let file = &room[..n];
     match verb {
-        b"list" => list(program, &path, &file, |line, k| {
-            day_lines::put_line(line, 0, &file, k)
+        b"list" => list(program, path, file, |line, k| {
+            day_lines::put_line(line, 0, file, k)
         }),
-        b"fault" => list(program, &path, &file, |line, k| {
-            fault_lines::put_day_fault(line, 0, &file, k)
+        b"fault" => list(program, path, file, |line, k| {
+            fault_lines::put_day_fault(line, 0, file, k)
         }),
-        _ => get(program, &path, &file),
+        _ => get(program, path, file),
     }
 }
 
-// Every file that is named, one behind the other, and their ends. None where one is refused.
+// Every file that is named, one behind the other at the room's start, and their ends. Where the last one ends; None where one is refused.
 fn gather<R: Env + Files + Print, E: Print>(
     program: &Program<'_, R, E>,
-    files: usize,
-) -> io::Result<Option<(Vec<u8>, Vec<usize>)>>
-    requires { files ≤ 4096 }
+    room: &mut [u8],
+    ends: &mut [usize],
+) -> io::Result<Option<usize>>
+    ensures { IfOk result (λ end. IfSome end (λ n. IsPrefixLen n room.new)) }
 {
-    let mut bytes = Vec::new(program.alloc);
-    let mut ends = Vec::new(program.alloc);
-    for i in 0..files {
-        let path = word(program, i + 2)?;
-        let room = MOST.saturating_sub(bytes.len());
-        let Some(file) = load(program, &path, room)? else {
+    let mut path = system::buffer::<LONGEST_WORD>();
+    let mut at = 0;
+    for i in 0..ends.len() {
+        let n = word(program, i + 2, &mut path)?;
+        let Some(k) = load(program, &path[..n], &mut room[at..])? else {
             return Ok(None);
         };
-        bytes.extend_from_slice(&file)?;
-        ends.push(bytes.len())?;
+        at += k;
+        ends[i] = at;
     }
-    Ok(Some((bytes, ends)))
+    Ok(Some(at))
 }
 
 // The day of the files that are named.
 fn pack<R: Env + Files + Print, E: Print>(
     program: &Program<'_, R, E>,
     files: usize,
+    room: &mut [u8],
 ) -> io::Result<()> {
     if MESSAGES < files {
         return complain(
@@ -214,14 +238,14 @@ fn pack<R: Env + Files + Print, E: Print>(
             ": refused 18, more than 4096 messages",
         );
     }
-    let Some((bytes, ends)) = gather(program, files)? else {
+    let mut ends = ends_room();
+    let Some(end) = gather(program, room, &mut ends[..files])? else {
         return Ok(());
     };
-    let mut out = system::zeros(program.alloc, MOST)?;
-    match days::write_day(&mut out, &bytes, &ends) {
+    let mut out = system::buffer::<MOST>();
+    match days::write_day(&mut out, &room[..end], &ends[..files]) {
         Wrote::To(end) => {
-            out.truncate(end);
-            program.put_out(&out)?;
+            program.put_out(&out[..end.min(MOST)])?;
             Ok(())
         }
         Wrote::Refused(_) => complain(
@@ -232,21 +256,33 @@ fn pack<R: Env + Files + Print, E: Print>(
     }
 }
 
+// What a verb asks for. The room for a file is made once here, since the stack would not hold one for each.
+fn run<R: Env + Files + Print, E: Print>(
+    program: &Program<'_, R, E>,
+    verb: &[u8],
+) -> io::Result<()> {
+    let mut room = system::buffer::<MOST>();
+    match verb {
+        // More than a day has messages count as one more.
+        b"pack" => {
+            let words = system::argument_count(program.rt, MESSAGES + 3);
+            pack(program, words.saturating_sub(2), &mut room)
+        }
+        _ => look(program, verb, &mut room),
+    }
+}
+
 fn main(rt: HostRuntime) -> io::Result<()> {
     let program = Program {
         name: "day",
-        alloc: rt.alloc(),
         rt: &rt,
         err: &rt.stderr(),
     };
-    let verb = word(&program, 1)?;
-    match verb.as_slice() {
-        b"list" | b"fault" | b"get" => look(&program, &verb),
-        // More than a day has messages count as one more.
-        b"pack" => {
-            let words = system::argument_count(&rt, MESSAGES + 3);
-            pack(&program, words.saturating_sub(2))
-        }
+    let mut room = system::buffer::<LONGEST_WORD>();
+    let n = word(&program, 1, &mut room)?;
+    let verb = &room[..n];
+    match verb {
+        b"list" | b"fault" | b"get" | b"pack" => run(&program, verb),
         _ => complain(
             program.err,
             b"list FILE",

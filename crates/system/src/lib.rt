@@ -2,7 +2,7 @@
 // text put into a lent buffer; and what failed, said in the system's words.
 #![tactic(auto)]
 
-ghost use Rattle.std.specs.Prelude.{◌≡◌, ◌≤◌, length, vec_len, IfOk, IfSome};
+ghost use Rattle.std.specs.Prelude.{◌≡◌, ◌≤◌, length, take, vec_len, IfOk, IfSome};
 ghost use Rattle.std.specs.Str.{IsUtf8};
 ghost use Rattle.std.specs.Fn.{FnOnceReturnsAtMut};
 ghost use Rattle.system.specs.Counts.{IsPrefixLen};
@@ -95,7 +95,18 @@ fn read_on<R: Read>(reader: &mut R, front: Vec<u8>, most: usize) -> Result<Vec<u
     Ok(bytes)
 }
 
-// The text that `put` puts at the start of a buffer of so many zeros, where it answers the text's end; no more than the buffer holds.
+// How long the text is that `put` puts at the start of a lent buffer, where it answers the text's end; no more than the buffer holds.
+#[tactic(auto, using(std::proofs::lemmas::List::take_min))]
+pub fn put_text<F: FnOnce(&mut [u8]) -> usize>(room: &mut [u8], put: F) -> usize
+    requires { F.IsAlwaysCallable put }
+    ensures room { IsPrefixLen result room.new }
+    ensures text { IsPutBy (FnOnceReturnsAtMut F.FnOnce put) (length room.old) (take result room.new) }
+{
+    let end = put(room);
+    end.min(room.len())
+}
+
+// The same at the start of so many zeros of its own.
 pub fn text<F: FnOnce(&mut [u8]) -> usize>(
     alloc: Global,
     room: usize,
@@ -159,17 +170,16 @@ pub fn word(alloc: Global, env: &impl Env, i: usize) -> io::Result<Vec<u8>>
 }
 
 // Where a program's message stands: on standard input, or in the file of its only argument. (An Option in the Option of `find_source` would say neither.)
-#[derive(Drop)]
-pub enum Source {
+#[derive(Clone, Copy)]
+pub enum Source<'a> {
     Input,
-    File(Vec<u8>),
+    File(&'a [u8]),
 }
 
-// A program: its name, its memory, the system that it works with, and where it says what fails.
+// A program: its name, the system that it works with, and where it says what fails. It takes nothing from the heap.
 #[derive(Clone, Copy)]
 pub struct Program<'a, R, E> {
     pub name: &'a str,
-    pub alloc: Global,
     pub rt: &'a R,
     pub err: &'a E,
 }
@@ -182,12 +192,13 @@ impl<R: Env + Files + Print, E: Print> Program<'_, R, E> {
         println!(err; "{name}: FILE, or the message on standard input")
     }
 
-    // The source that the command line names. None where it has more than one argument, or one that can't be told, which is said.
-    pub fn find_source(&self) -> io::Result<Option<Source>> {
+    // The source that the command line names; a file's name is put at the start of `path`. None where it has more than one argument, or one that can't be
+    // told, which is said.
+    pub fn find_source<'a>(&self, path: &'a mut [u8]) -> io::Result<Option<Source<'a>>> {
         match argument_count(self.rt, 3) {
             0 | 1 => Ok(Some(Source::Input)),
-            2 => match word(self.alloc, self.rt, 1) {
-                Ok(path) => Ok(Some(Source::File(path))),
+            2 => match argument(self.rt, 1, path) {
+                Ok(n) => Ok(Some(Source::File(&path[..n]))),
                 Err(e) => {
                     self.fail_at("argument", &e)?;
                     Ok(None)
@@ -200,14 +211,19 @@ impl<R: Env + Files + Print, E: Print> Program<'_, R, E> {
         }
     }
 
-    // The message that stands in a source, as much of it as is read. None where its file can't be opened, which is said.
-    pub fn message(&self, input: &mut impl Read, source: &Source) -> io::Result<Option<Vec<u8>>>
-        ensures { IfOk result (λ m. IfSome m (λ v. vec_len v ≤ 65537)) }
+    // How many bytes of the message that stands in a source were read, up to the room's end. None where its file can't be opened, which is said.
+    pub fn message(
+        &self,
+        input: &mut impl Read,
+        source: Source<'_>,
+        room: &mut [u8],
+    ) -> io::Result<Option<usize>>
+        ensures { IfOk result (λ m. IfSome m (λ n. IsPrefixLen n room.new)) }
     {
         match source {
-            Source::Input => Ok(Some(read_up_to(self.alloc, input, MESSAGE_ROOM)?)),
+            Source::Input => Ok(Some(read_full(input, room))),
             Source::File(path) => match open(self.rt, path) {
-                Ok(mut file) => Ok(Some(read_up_to(self.alloc, &mut file, MESSAGE_ROOM)?)),
+                Ok(mut file) => Ok(Some(read_full(&mut file, room))),
                 Err(e) => {
                     fail(self.err, path, &e)?;
                     Ok(None)
@@ -216,12 +232,13 @@ impl<R: Env + Files + Print, E: Print> Program<'_, R, E> {
         }
     }
 
-    // The message that the program is given. None where there is none, which is said.
-    pub fn given_message(&self, input: &mut impl Read) -> io::Result<Option<Vec<u8>>>
-        ensures { IfOk result (λ m. IfSome m (λ v. vec_len v ≤ 65537)) }
+    // The same of the message that the program is given. None where there is none, which is said.
+    pub fn given_message(&self, input: &mut impl Read, room: &mut [u8]) -> io::Result<Option<usize>>
+        ensures { IfOk result (λ m. IfSome m (λ n. IsPrefixLen n room.new)) }
     {
-        match self.find_source()? {
-            Some(source) => self.message(input, &source),
+        let mut path = buffer::<LONGEST_WORD>();
+        match self.find_source(&mut path)? {
+            Some(source) => self.message(input, source, room),
             None => Ok(None),
         }
     }
@@ -239,9 +256,9 @@ impl<R: Env + Files + Print, E: Print> Program<'_, R, E> {
 
     // What failed, behind the program's name.
     pub fn fail_at(&self, place: &str, error: &io::Error) -> io::Result<()> {
-        let name = self.name;
-        let what = format!(in self.alloc; "{name}: {place}")?;
-        fail(self.err, what.as_bytes(), error)
+        self.err.print(self.name)?;
+        self.err.print(": ")?;
+        fail(self.err, place.as_bytes(), error)
     }
 }
 
